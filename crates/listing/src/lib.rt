@@ -1,0 +1,2 @@
+// Listings: numbers and frames in upper-case hexadecimal digits.
+pub mod hex;

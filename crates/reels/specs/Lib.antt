@@ -1,0 +1,3 @@
+pub mod Clicks
+pub mod Laws
+pub mod Tracks
