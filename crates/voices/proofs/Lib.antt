@@ -1,0 +1,4 @@
+pub mod KindLaws
+pub mod Looks
+pub mod Pasts
+pub mod Weights
