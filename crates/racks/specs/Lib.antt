@@ -1,0 +1,5 @@
+pub mod Laws
+pub mod Rack
+pub mod SessionRack
+pub mod SessionUnits
+pub mod Sides

@@ -1,0 +1,9 @@
+pub mod Agreement
+pub mod Existence
+pub mod Inputs
+pub mod Latenesses
+pub mod Lines
+pub mod Listening
+pub mod Order
+pub mod Sessions
+pub mod Units

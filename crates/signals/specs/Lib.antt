@@ -1,0 +1,4 @@
+pub mod Examples
+pub mod Patches
+pub mod Signals
+pub mod Theorems
