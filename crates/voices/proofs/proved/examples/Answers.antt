@@ -1,7 +1,7 @@
 use lib.Dec.{lit≤, lit<}
 use mathlib.Core.Path.{refl, sym}
 use Rattle.voices.proofs.Weights.{weighs-by, weight-is}
-use Rattle.voices.proofs.examples_hold.Needs as need
+use Rattle.voices.proofs.proved.examples.Needs as need
 
 pub returns : need.returns
 returns c = (

@@ -1,0 +1,4 @@
+pub mod Follow
+pub mod Hearing
+pub mod Plays
+pub mod Slots
