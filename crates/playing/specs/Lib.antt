@@ -1,3 +1,5 @@
+pub mod Arranged
+pub mod Desks
 pub mod Tape
 pub mod Theorems
 pub mod Work

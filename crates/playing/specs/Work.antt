@@ -19,6 +19,9 @@ pub record Deck : Type 0 where
   pub units : List (Meaning Frame)
   pub tape : List Frame
 
+abbrev pub deck : List (Meaning Frame) → List Frame → Deck
+deck units tape = record { units = units; tape = tape }
+
 -- What node v hears at frame n: its reel frame, or what a bus makes of the frames that its lines read from the tape, each
 -- `delay` frames before.
 abbrev pub hears : Plan → (ℕ → ℕ) → Tracks → List Frame → ℕ → ℕ → Frame

@@ -10,6 +10,7 @@ use crate::sides::Side;
 use frames::samples::Frame;
 
 // Two racks as one: the first's units and then the second's, cut to 16.
+#[derive(Drop)]
 pub struct Pair<P, Q> {
     pub first: P,
     pub second: Q,

@@ -5,6 +5,7 @@ use frames::samples::Frame;
 use units::interface::Unit;
 
 // One unit as a rack: its number is 0.
+#[derive(Drop)]
 pub struct Single<U> {
     pub unit: U,
 }

@@ -1,1 +1,3 @@
+pub mod Drafting
+pub mod Entries
 pub mod Rules

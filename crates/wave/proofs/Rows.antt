@@ -1,12 +1,16 @@
--- The bytes of a list of frames, one frame further.
-use Prim.Native.Nat.{ℕ, _+_, _-_, _*_, _<_, _≤_}
-use lib.ListN.{drop, getD, length, take, length-append}
+-- The lengths of a file's bytes, and the bytes of a list of frames one frame further.
+use Prim.Native.Nat.{ℕ, _+_, _*_, _<_}
+use lib.ListN.{drop, getD, length, take}
 use mathlib.Core.List.{List, [], _∷_, _++_, append-assoc}
 use mathlib.Core.Path.{_≡_, refl, sym, ap, ap₂, _∙_}
 use native.Mathlib.Omega.{arith}
 use Rattle.frames.specs.declared.samples.Frame.{Frame}
 use Rattle.std.proofs.shelf.Lists.{drop-at, drop-drop, joined-more, length-take-le, take-at, take-more}
-use Rattle.wave.specs.Bytes.{frame-bytes, frames-bytes}
+use Rattle.wave.specs.Bytes.{frame-bytes, frames-bytes, head-around, head-bytes}
+
+pub head-length : (n rate : ℕ) → length (head-bytes n rate) ≡ 44
+unfolding head-around
+head-length n rate = refl
 
 pub frames-bytes-length : (fs : List Frame) → length (frames-bytes fs) ≡ 4 * length fs
 frames-bytes-length [] = refl

@@ -1,6 +1,7 @@
 -- The bytes of a WAVE file of 16-bit stereo frames.
 use Prim.Native.Nat.{ℕ, _+_, _*_, _/_, _%_}
 use lib.Chars.{codes}
+use lib.ListN.{length}
 use mathlib.Core.List.{List, [], _∷_, _++_}
 use Rattle.frames.specs.Samples.{word}
 use Rattle.frames.specs.declared.samples.Frame.{Frame}
@@ -31,3 +32,7 @@ head-around size rate byte-rate data-size =
 -- The 44 bytes before n frames at a rate.
 abbrev pub head-bytes : ℕ → ℕ → List ℕ
 head-bytes n rate = head-around (four-bytes (36 + 4 * n)) (four-bytes rate) (four-bytes (4 * rate)) (four-bytes (4 * n))
+
+-- A file: the head, then the frames.
+abbrev pub file-bytes : ℕ → List Frame → List ℕ
+file-bytes rate fs = head-bytes (length fs) rate ++ frames-bytes fs

@@ -1,2 +1,11 @@
+pub mod Accepted
+pub mod Back
 pub mod Bytes
+pub mod Due
 pub mod Faults
+pub mod Judged
+pub mod Laws
+pub mod Opened
+pub mod Parts
+pub mod Reel
+pub mod Written

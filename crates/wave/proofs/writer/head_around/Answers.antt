@@ -1,4 +1,4 @@
-use Prim.Native.Nat.{ℕ, zero, suc}
+use Prim.Native.Nat.{ℕ}
 use Rattle.wave.proofs.writer.head_around.Needs as need
 use Rattle.wave.specs.Bytes.{head-around}
 use borrow.Author.Needs.{needs}

@@ -1,0 +1,13 @@
+pub mod Assembling
+pub mod Feeding
+pub mod Finding
+pub mod Following
+pub mod Growing
+pub mod Hearing
+pub mod Joining
+pub mod Lateness
+pub mod Linking
+pub mod Placed
+pub mod Standing
+pub mod Sweeping
+pub mod Working

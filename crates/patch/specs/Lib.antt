@@ -1,0 +1,12 @@
+pub mod Chains
+pub mod Due
+pub mod Examples
+pub mod Faults
+pub mod Flows
+pub mod Inputs
+pub mod JoinLaws
+pub mod Orders
+pub mod Ours
+pub mod Patches
+pub mod Placing
+pub mod Sweeps

@@ -1,0 +1,4 @@
+pub mod Lines
+pub mod Spaces
+pub mod Staging
+pub mod Whole

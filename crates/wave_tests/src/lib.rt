@@ -1,0 +1,5 @@
+// WAVE files, run on examples.
+#[cfg(test)]
+mod reading;
+#[cfg(test)]
+mod refusing;
