@@ -9,17 +9,16 @@ ghost use Rattle.std.specs.Vec.{made};
 ghost use Rattle.forms.specs.Forms.{joined-form, line-form, node-form, numbered, role-fits, role-most, session-form, some-unit, source-form, unit-part};
 ghost use Rattle.words.specs.Parsing.{gain-word, keyword, paired, ranged};
 ghost use Rattle.words.specs.Words.{cursor, item};
-
-use words::faults::ReadFault;
 use crate::roles::Role;
 use crate::roles::fits;
 use crate::roles::most;
-use words::words::Token;
-use words::words::Words;
 use session::nodes::Line;
 use session::nodes::Node;
 use session::nodes::Source;
 use session::sessions::drafts::Draft;
+use words::faults::ReadFault;
+use words::words::Token;
+use words::words::Words;
 
 // A unit's or a node's number.
 pub fn numbered(draft: &Draft, role: Role, words: &mut Words<'_>) -> Result<u8, ReadFault>

@@ -7,17 +7,16 @@ ghost use Rattle.std.specs.Vec.{made};
 ghost use Rattle.forms.specs.Forms.{count-form, delay-form, fir-form, is-delay, is-fir, is-limit, is-pan, kind-form, limit-form, pan-form, taps-form};
 ghost use Rattle.words.specs.Parsing.{paired};
 ghost use Rattle.words.specs.Words.{cursor};
-
-use words::faults::ReadFault;
 use crate::forms::gain;
 use crate::forms::keyword;
 use crate::forms::ranged;
-use words::words::Words;
 use session::settings::Kind;
 use units::settings::DelaySettings;
 use units::settings::FirSettings;
 use units::settings::LimitSettings;
 use units::settings::PanSettings;
+use words::faults::ReadFault;
+use words::words::Words;
 
 // The number of taps: odd.
 fn count(words: &mut Words<'_>) -> Result<u8, ReadFault>

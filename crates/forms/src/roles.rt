@@ -2,7 +2,6 @@ ghost use Prim.Native.Nat.{_≤_};
 ghost use mathlib.Core.Path.{_≡_};
 ghost use Rattle.session.specs.Drafts.{draft as contents-of};
 ghost use Rattle.forms.specs.Forms.{role-fits, role-most};
-
 use session::sessions::drafts::Draft;
 
 // What a number names: a unit that is new, is set, or is set and free; the next node, a declared one, or a bus.

@@ -8,8 +8,6 @@ ghost use Rattle.std.specs.Vec.{made};
 ghost use Rattle.forms.specs.Forms.{bypass-form, given-layer, layer-form, trim-form};
 ghost use Rattle.forms.specs.Turns.{Does, line-turn, node-turn, session-turn, unit-turn};
 ghost use Rattle.words.specs.Words.{cursor, item};
-
-use words::faults::ReadFault;
 use crate::forms::gain;
 use crate::forms::line;
 use crate::forms::node;
@@ -17,11 +15,12 @@ use crate::forms::numbered;
 use crate::forms::session;
 use crate::kinds::kind;
 use crate::roles::Role;
-use words::words::Token;
-use words::words::Words;
 use session::sessions::drafts::Draft;
 use session::sessions::drafts::DraftFault;
 use units::settings::TrimSettings;
+use words::faults::ReadFault;
+use words::words::Token;
+use words::words::Words;
 
 pub fn session_turn(draft: &mut Draft, words: &mut Words<'_>) -> Result<(), ReadFault>
     ensures does { λ r. ⌜ Does (λ _. contents-of (now (draft .exit))) r (cursor (now (words .exit))) (session-turn (contents-of (now (draft .entry))) (cursor (now (words .entry)))) ⌝ }
@@ -45,7 +44,12 @@ pub fn unit_turn(draft: &mut Draft, words: &mut Words<'_>) -> Result<(), ReadFau
     Ok(())
 }
 
-fn trim_layer(draft: &mut Draft, s: u8, word: &Token<'_>, words: &mut Words<'_>) -> Result<(), ReadFault>
+fn trim_layer(
+    draft: &mut Draft,
+    s: u8,
+    word: &Token<'_>,
+    words: &mut Words<'_>,
+) -> Result<(), ReadFault>
     requires { ⌜ is-set (contents-of (now draft)) s ≡ true ⌝ }
     ensures does { λ r. ⌜ Does (λ _. contents-of (now (draft .exit))) r (cursor (now (words .exit))) (trim-form (contents-of (now (draft .entry))) s (item (now (word .entry))) (cursor (now (words .entry)))) ⌝ }
     ensures rate { λ r. ⌜ made r (λ _. contents-of (now (draft .exit)) .rate ≡ contents-of (now (draft .entry)) .rate) ⌝ }
@@ -60,7 +64,12 @@ fn trim_layer(draft: &mut Draft, s: u8, word: &Token<'_>, words: &mut Words<'_>)
     Ok(())
 }
 
-fn bypass_layer(draft: &mut Draft, s: u8, word: &Token<'_>, words: &mut Words<'_>) -> Result<(), ReadFault>
+fn bypass_layer(
+    draft: &mut Draft,
+    s: u8,
+    word: &Token<'_>,
+    words: &mut Words<'_>,
+) -> Result<(), ReadFault>
     requires { ⌜ is-set (contents-of (now draft)) s ≡ true ⌝ }
     ensures does { λ r. ⌜ Does (λ _. contents-of (now (draft .exit))) r (cursor (now (words .exit))) (bypass-form (contents-of (now (draft .entry))) s (item (now (word .entry))) (cursor (now (words .entry)))) ⌝ }
     ensures rate { λ r. ⌜ made r (λ _. contents-of (now (draft .exit)) .rate ≡ contents-of (now (draft .entry)) .rate) ⌝ }
@@ -74,7 +83,12 @@ fn bypass_layer(draft: &mut Draft, s: u8, word: &Token<'_>, words: &mut Words<'_
     Ok(())
 }
 
-fn given_layer(draft: &mut Draft, s: u8, word: &Token<'_>, words: &mut Words<'_>) -> Result<(), ReadFault>
+fn given_layer(
+    draft: &mut Draft,
+    s: u8,
+    word: &Token<'_>,
+    words: &mut Words<'_>,
+) -> Result<(), ReadFault>
     requires { ⌜ is-set (contents-of (now draft)) s ≡ true ⌝ }
     ensures does { λ r. ⌜ Does (λ _. contents-of (now (draft .exit))) r (cursor (now (words .exit))) (given-layer (contents-of (now (draft .entry))) s (item (now (word .entry))) (cursor (now (words .entry)))) ⌝ }
     ensures rate { λ r. ⌜ made r (λ _. contents-of (now (draft .exit)) .rate ≡ contents-of (now (draft .entry)) .rate) ⌝ }
@@ -112,7 +126,11 @@ pub fn node_turn(draft: &mut Draft, words: &mut Words<'_>) -> Result<(), ReadFau
     }
 }
 
-pub fn line_turn(draft: &mut Draft, word: &Token<'_>, words: &mut Words<'_>) -> Result<(), ReadFault>
+pub fn line_turn(
+    draft: &mut Draft,
+    word: &Token<'_>,
+    words: &mut Words<'_>,
+) -> Result<(), ReadFault>
     ensures does { λ r. ⌜ Does (λ _. contents-of (now (draft .exit))) r (cursor (now (words .exit))) (line-turn (contents-of (now (draft .entry))) (item (now (word .entry))) (cursor (now (words .entry)))) ⌝ }
     ensures rate { λ r. ⌜ made r (λ _. contents-of (now (draft .exit)) .rate ≡ contents-of (now (draft .entry)) .rate) ⌝ }
     ensures nodes { λ r. ⌜ made r (λ _. contents-of (now (draft .exit)) .nodes ≡ contents-of (now (draft .entry)) .nodes) ⌝ }

@@ -1,13 +1,6 @@
 // Reads a session text from standard input and prints what the session holds, or the refusal.
 use frames::refusals::Fault;
 use frames::refusals::RefusalDisplay;
-use patch::faults::told::PatchFaultTold;
-use patch::patches::Patch;
-use patch::patches::ours::our_patch;
-use racks::interface::Rack;
-use racks::pair::PairRack;
-use racks::session_rack::session_rack;
-use racks::single::SingleRack;
 use session::nodes::Line;
 use session::nodes::Node;
 use session::nodes::Source;
@@ -17,13 +10,7 @@ use session::settings::Setting;
 use std::error::AnyError;
 use std::io::Read;
 use text::reader::read;
-use units::bypass::BypassUnit;
-use units::delay::DelayUnit;
-use units::fir::FirUnit;
-use units::limit::LimitUnit;
-use units::pan::PanUnit;
 use units::settings::FirSettings;
-use units::trim::TrimUnit;
 use words::faults::ReadFaultFault;
 
 fn print_fir(rt: &LibcRuntime, s: usize, fir: &FirSettings) -> Result<(), AnyError> {
@@ -42,7 +29,10 @@ fn print_kind(rt: &LibcRuntime, s: usize, kind: &Kind) -> Result<(), AnyError> {
         Kind::Limit(limit) => {
             let lookahead = limit.lookahead;
             let ceiling = limit.ceiling;
-            println!(rt, "unit {s}: limit, lookahead {lookahead}, ceiling {ceiling}")?;
+            println!(
+                rt,
+                "unit {s}: limit, lookahead {lookahead}, ceiling {ceiling}"
+            )?;
         }
         Kind::Pan(pan) => {
             let position = pan.position;
@@ -104,44 +94,12 @@ fn print_session(rt: &LibcRuntime, session: &Session) -> Result<(), AnyError> {
     Ok(())
 }
 
-// How late each node is, what feeds it, and how long each line is held.
-fn print_patch(rt: &LibcRuntime, patch: &Patch) -> Result<(), AnyError> {
-    for (v, late) in patch.latenesses().iter().enumerate() {
-        if let Ok(feeders) = patch.feeders(v) {
-            println!(rt, "node {v} is {late} late, feeders {feeders:016b}")?;
-        }
-    }
-    for (i, delay) in patch.delays().iter().enumerate() {
-        println!(rt, "line {i} is held {delay} frames")?;
-    }
-    Ok(())
-}
-
-// The patch over a rack, or why there is none.
-fn print_wiring<R: Rack>(rt: &LibcRuntime, session: &Session, rack: &R) -> Result<(), AnyError> {
-    match our_patch(session, rack) {
-        Ok(patch) => print_patch(rt, &patch),
-        Err(fault) => {
-            let refusal = fault.refusal();
-            println!(rt, "{refusal}")?;
-            Ok(())
-        }
-    }
-}
-
-// The session and its patch over its own rack.
-fn print_all(rt: &LibcRuntime, session: &Session) -> Result<(), AnyError> {
-    print_session(rt, session)?;
-    let rack = session_rack(session);
-    print_wiring(rt, session, &rack)
-}
-
 fn run(rt: &LibcRuntime) -> Result<(), AnyError> {
     let mut text = Vec::new(rt.alloc());
     rt.stdin().read_to_end(&mut text)?;
     let mut session = Session::empty(rt.alloc());
     match read(&text, &mut session, rt.alloc()) {
-        Ok(()) => print_all(rt, &session),
+        Ok(()) => print_session(rt, &session),
         Err(fault) => {
             let refusal = fault.refusal();
             println!(rt, "{refusal}")?;

@@ -78,7 +78,7 @@ module _ (p : Plan) (r : Keeps-rules p) where
     }
 
   pub keeps-line : (l : Line) → length (p .lines) < 48 → l .start < length (p .nodes) → l .end < length (p .nodes) → is-bus (node p (l .end) .source) ≡ true
-    → Keeps-rules (record { nodes = p .nodes; lines = p .lines ++ l ∷ [] })
+      → Keeps-rules (record { nodes = p .nodes; lines = p .lines ++ l ∷ [] })
   keeps-line l few s e b = record {
     few-nodes = r .few-nodes;
     few-lines = rw length-push (omega arith);
@@ -111,18 +111,18 @@ module _ (h : Held) (r : Lawful-draft h) where
   draft-settings es k = record { least-rate = r .least-rate; most-rate = r .most-rate; keeps = r .keeps; suited = k }
 
   pub draft-kind : (es : List Setting) (s : ℕ) (k : Kind) → s < length (h .settings) → suits s k ≡ true → es ≡ set (h .settings) s (with-kind (getD (h .settings) s unset) k)
-    → Lawful-draft (record { rate = h .rate; plan = h .plan; settings = es })
+      → Lawful-draft (record { rate = h .rate; plan = h .plan; settings = es })
   draft-kind es s k l f e =
       draft-settings es (subst Suited (sym e) (suited-set (h .settings) s _ l (r .suited) (λ k′ q. subst (λ x. suits s x ≡ true) (some-same k k′ q) f)))
 
   pub draft-layer : (es : List Setting) (s : ℕ) (x : Setting) → s < length (h .settings) → x .kind ≡ setting (h .settings) s .kind → es ≡ set (h .settings) s x
-    → Lawful-draft (record { rate = h .rate; plan = h .plan; settings = es })
+      → Lawful-draft (record { rate = h .rate; plan = h .plan; settings = es })
   draft-layer es s x l same e =
       draft-settings es (subst Suited (sym e) (suited-set (h .settings) s x l (r .suited) (λ k q. r .suited s k (sym same ∙ q))))
 
   module _ (n : Node) (few : length (h .plan .nodes) < 16) (ok : free (contents h) (n .unit) ≡ true) where
     pub draft-node : (added : Bool) (ns : List Node) → ns ≡ cond added (h .plan .nodes ++ n ∷ []) (h .plan .nodes)
-      → Lawful-draft (record { rate = h .rate; plan = record { nodes = ns; lines = h .plan .lines }; settings = h .settings })
+        → Lawful-draft (record { rate = h .rate; plan = record { nodes = ns; lines = h .plan .lines }; settings = h .settings })
     draft-node added ns e = draft-plan _ (subst (λ l. Keeps-rules (record { nodes = l; lines = h .plan .lines })) (sym e) (either added))
       where
         unused : (s : ℕ) → n .unit ≡ Some s → used (h .plan .nodes) s ≡ false
@@ -134,7 +134,7 @@ module _ (h : Held) (r : Lawful-draft h) where
 
   module _ (l : Line) (few : length (h .plan .lines) < 48) (start : l .start < length (h .plan .nodes)) (ok : bus-at (contents h) (l .end) ≡ true) where
     pub draft-line : (added : Bool) (ls : List Line) → ls ≡ cond added (h .plan .lines ++ l ∷ []) (h .plan .lines)
-      → Lawful-draft (record { rate = h .rate; plan = record { nodes = h .plan .nodes; lines = ls }; settings = h .settings })
+        → Lawful-draft (record { rate = h .rate; plan = record { nodes = h .plan .nodes; lines = ls }; settings = h .settings })
     draft-line added ls e = draft-plan _ (subst (λ m. Keeps-rules (record { nodes = h .plan .nodes; lines = m })) (sym e) (either added))
       where
         either : (b : Bool) → Keeps-rules (record { nodes = h .plan .nodes; lines = cond b (h .plan .lines ++ l ∷ []) (h .plan .lines) })
@@ -156,8 +156,11 @@ draft-nothing = record {
   least-rate = λ h. omega arith;
   most-rate = omega arith;
   keeps = record {
-    few-nodes = omega arith; few-lines = omega arith;
-    starts = λ i h. omega arith; ends = λ i h. omega arith; ends-at-bus = λ i h. absurd (omega arith);
+    few-nodes = omega arith;
+    few-lines = omega arith;
+    starts = λ i h. omega arith;
+    ends = λ i h. omega arith;
+    ends-at-bus = λ i h. absurd (omega arith);
     one-node = λ v w s h. absurd (omega arith);
   };
   suited = λ s k h. absurd (unset-not s k h);

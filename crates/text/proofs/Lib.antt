@@ -1,4 +1,13 @@
+pub mod Commands
+pub mod Grammar
+pub mod Joining
 pub mod Lines
+pub mod Linewise
+pub mod Scripting
 pub mod Spaces
+pub mod Spelt
 pub mod Staging
+pub mod Steps
+pub mod Turned
 pub mod Whole
+pub mod Wholes

@@ -45,7 +45,7 @@ made-always (Err e) P h = tt
 
 -- what `close` promises
 pub gives-closed : (row : ℕ) (ls : List (List ℕ)) (c : Contents) (r : Result (Unit {0}) ReadFault) (spec : Result Contents ReadFault)
-  → r ≡ closed row ls tt → spec ≡ closed row ls c → Gives (λ _. c) r spec
+    → r ≡ closed row ls tt → spec ≡ closed row ls c → Gives (λ _. c) r spec
 gives-closed row ls c r spec e h = subst (λ r. Gives (λ _. c) r spec) (sym e) (subst (Gives (λ _. c) (closed row ls tt)) (sym h) (go (nothing-follows ls)))
   where
     go : (b : Bool) → Gives (λ (_ : Unit {0}). c) (cond b (Ok tt) (Err (Rest (record { line = row + 1; column = 1 })))) (cond b (Ok c) (Err (Rest (record { line = row + 1; column = 1 }))))

@@ -15,7 +15,7 @@ use Rattle.text.specs.declared.stages.Stage.{Stage}
 use Rattle.text.specs.declared.stages.Stage.the-variants.{Head, Units, Nodes, Lines}
 
 pub staged-on : (st : Stage) (first : firsts.First) (c d : Contents) → isSome (next-stage st first) ≡ true → staged st c ≡ true → Grows first c d
-  → (staged (valueOr (next-stage st first) st) d ≡ true) × (is-end first ≡ true → ready d ≡ true)
+    → (staged (valueOr (next-stage st first) st) d ≡ true) × (is-end first ≡ true → ready d ≡ true)
 staged-on Head Session c d due s g = (lt-ltb 0 (d .rate) (g .0), λ e. absurd (false≢true e))
 staged-on Head Unit c d due s g = absurd (false≢true due)
 staged-on Head Layer c d due s g = absurd (false≢true due)

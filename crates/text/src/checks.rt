@@ -3,7 +3,6 @@ ghost use lib.ListN.{length};
 ghost use mathlib.Core.Path.{_≡_};
 ghost use Rattle.words.specs.Pieces.{split};
 ghost use Rattle.text.specs.Reading.{bytes-check, spaces-check};
-
 use words::bytes::known_run;
 use words::faults::Place;
 use words::faults::ReadFault;

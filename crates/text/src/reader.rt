@@ -7,6 +7,7 @@ ghost use Rattle.session.specs.Drafts.{draft as contents-of};
 ghost use Rattle.session.specs.Held.{nothing};
 ghost use Rattle.session.specs.Sessions.{held};
 ghost use Rattle.std.specs.Vec.{made, refused};
+ghost use Rattle.text.specs.Accepted.{Accepts};
 ghost use Rattle.text.specs.Reading.{Gives, closed, line-read, lines-read, reading};
 ghost use Rattle.forms.specs.Turns.{Does};
 ghost use Rattle.text.specs.Turning.{staged, whole-turn};
@@ -14,20 +15,19 @@ ghost use Rattle.text.specs.Stages.{is-end};
 ghost use Rattle.words.specs.Pieces.{pieces, split};
 ghost use Rattle.words.specs.Words.{cursor};
 ghost use Rattle.text.specs.declared.stages.Stage.the-variants.{Head};
-
 use crate::checks::check_bytes;
 use crate::checks::check_spaces;
-use words::faults::Place;
-use words::faults::ReadFault;
-use words::pieces::Pieces;
 use crate::stages::First;
 use crate::stages::Stage;
 use crate::stages::first_of;
 use crate::turning::turn;
-use words::words::Words;
 use session::sessions::Session;
 use session::sessions::drafts::Draft;
 use std::alloc::Global;
+use words::faults::Place;
+use words::faults::ReadFault;
+use words::pieces::Pieces;
+use words::words::Words;
 
 // The reader: where it is, and what is held so far.
 #[derive(Drop)]
@@ -130,9 +130,8 @@ fn read_short(text: &[u8], session: &mut Session, heap: Global) -> Result<(), Re
     Ok(())
 }
 
-// Reads a session text. The session then holds what the text says; where the text is refused or memory lacks, it is the
-// empty session.
-pub fn read(text: &[u8], session: &mut Session, heap: Global) -> Result<(), ReadFault>
+// Reads a text by the definition of reading.
+fn read_text(text: &[u8], session: &mut Session, heap: Global) -> Result<(), ReadFault>
     ensures does { λ r. ⌜ Gives (λ _. contents (held (now (session .exit)))) r (reading (now (text .entry))) ⌝ }
     ensures refused { λ r. ⌜ refused r (λ _. held (now (session .exit)) ≡ nothing) ⌝ }
 {
@@ -141,4 +140,14 @@ pub fn read(text: &[u8], session: &mut Session, heap: Global) -> Result<(), Read
         return Err(ReadFault::Long);
     }
     read_short(text, session, heap)
+}
+
+// Reads a session text. The session then holds what the text says; where the text is refused or memory lacks, it is the
+// empty session. The texts that are accepted are the spellings of well-formed scripts.
+pub fn read(text: &[u8], session: &mut Session, heap: Global) -> Result<(), ReadFault>
+    ensures does { λ r. ⌜ Gives (λ _. contents (held (now (session .exit)))) r (reading (now (text .entry))) ⌝ }
+    ensures refused { λ r. ⌜ refused r (λ _. held (now (session .exit)) ≡ nothing) ⌝ }
+    ensures accepts { λ r. ⌜ Accepts r (now (text .entry)) (contents (held (now (session .exit)))) ⌝ }
+{
+    read_text(text, session, heap)
 }

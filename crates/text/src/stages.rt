@@ -2,7 +2,6 @@ ghost use mathlib.Core.Path.{_≡_};
 ghost use Rattle.std.specs.Options.{isSome, valueOr};
 ghost use Rattle.text.specs.Stages.{first-of, next-stage};
 ghost use Rattle.words.specs.Words.{spelt};
-
 use words::words::Token;
 
 // Where the reader is: at the head, among units, among nodes or among lines.

@@ -4,7 +4,6 @@ ghost use Rattle.session.specs.Drafts.{draft as contents-of};
 ghost use Rattle.std.specs.Vec.{made};
 ghost use Rattle.text.specs.Turning.{Grows, turn};
 ghost use Rattle.words.specs.Words.{cursor, item};
-
 use crate::stages::First;
 use forms::turns::layer_turn;
 use forms::turns::line_turn;
@@ -17,7 +16,12 @@ use words::words::Token;
 use words::words::Words;
 
 // The line that begins with this first word.
-pub fn turn(draft: &mut Draft, first: First, word: &Token<'_>, words: &mut Words<'_>) -> Result<(), ReadFault>
+pub fn turn(
+    draft: &mut Draft,
+    first: First,
+    word: &Token<'_>,
+    words: &mut Words<'_>,
+) -> Result<(), ReadFault>
     ensures does { λ r. ⌜ Does (λ _. contents-of (now (draft .exit))) r (cursor (now (words .exit))) (turn first (contents-of (now (draft .entry))) (item (now (word .entry))) (cursor (now (words .entry)))) ⌝ }
     ensures grows { λ r. ⌜ made r (λ _. Grows first (contents-of (now (draft .entry))) (contents-of (now (draft .exit)))) ⌝ }
 {

@@ -314,7 +314,9 @@ mod tests {
             }
             text.push('\n')?;
         }
-        text.push_str("unit 2 limit 63 32767\nunit 3 limit 63 32767\nunit 4 pan 256\nunit 5 pan 256\n")?;
+        text.push_str(
+            "unit 2 limit 63 32767\nunit 3 limit 63 32767\nunit 4 pan 256\nunit 5 pan 256\n",
+        )?;
         text.push_str("unit 6 delay 63\nunit 7 delay 63\n")
     }
 

@@ -27,13 +27,13 @@ split-first m [] = refl
 split-first m (x ∷ xs) = go (eqb x m) (split-first m xs)
   where
     go : (b : Bool) → split m xs ≡ take (upto m xs) xs ∷ later m xs (upto m xs)
-      → cond b ([] ∷ split m xs) (lengthen x (split m xs)) ≡ take (cond b zero (suc (upto m xs))) (x ∷ xs) ∷ later m (x ∷ xs) (cond b zero (suc (upto m xs)))
+        → cond b ([] ∷ split m xs) (lengthen x (split m xs)) ≡ take (cond b zero (suc (upto m xs))) (x ∷ xs) ∷ later m (x ∷ xs) (cond b zero (suc (upto m xs)))
     go true h = ap (λ l. [] ∷ l) (sym (cond-true _ _ _ (lt-ltb 0 (suc (length xs)) (omega arith))))
     go false h = ap (lengthen x) h ∙ ap (λ b. (x ∷ take (upto m xs) xs) ∷ cond b (split m (drop (suc (upto m xs)) xs)) []) (shifted (upto m xs) (length xs))
 
 -- the first piece from `a` on
 pub cut-at : (m : ℕ) (xs : List ℕ) (a : ℕ) → a ≤ length xs
-  → split m (drop a xs) ≡ take (upto m (drop a xs)) (drop a xs) ∷ cond (leb (a + upto m (drop a xs) + 1) (length xs)) (split m (drop (a + upto m (drop a xs) + 1) xs)) []
+    → split m (drop a xs) ≡ take (upto m (drop a xs)) (drop a xs) ∷ cond (leb (a + upto m (drop a xs) + 1) (length xs)) (split m (drop (a + upto m (drop a xs) + 1) xs)) []
 cut-at m xs a h =
     let u = upto m (drop a xs) in
     let e : a + suc u ≡ a + u + 1 = omega arith in
@@ -51,8 +51,8 @@ pieces-some p h = cond-true _ _ _ (le-leb (p .at) (length (now (p .bytes))) h)
 
 -- one piece cut off
 pub pieces-step : (p q : Pieces) (end : ℕ) → now (q .bytes) ≡ now (p .bytes) → q .mark ≡ p .mark → p .at ≤ length (now (p .bytes))
-  → end ≡ p .at + upto (p .mark) (drop (p .at) (now (p .bytes))) → q .at ≡ end + 1
-  → pieces p ≡ take (end - p .at) (drop (p .at) (now (p .bytes))) ∷ pieces q
+    → end ≡ p .at + upto (p .mark) (drop (p .at) (now (p .bytes))) → q .at ≡ end + 1
+    → pieces p ≡ take (end - p .at) (drop (p .at) (now (p .bytes))) ∷ pieces q
 unfolding pieces
 pieces-step p q end eb em h ee eq =
     let xs = now (p .bytes) in
@@ -88,6 +88,6 @@ unfolding split
 pieces-spent p =
     ⊎-elim (λ l. ne-eqb (p .at) (length (now (p .bytes))) (λ e. omega arith) ∙ sym (ap nothing-follows (pieces-none p l)))
     (λ g. ⊎-elim (λ e. eq-eqb (p .at) (length (now (p .bytes))) e ∙ sym (ap nothing-follows (pieces-some p g ∙ ap (split (p .mark)) (drop-all (p .at) (now (p .bytes)) (omega arith)))))
-      (λ n. ne-eqb (p .at) (length (now (p .bytes))) n ∙ sym (ap nothing-follows (pieces-some p g) ∙ rest-follows (p .mark) (drop (p .at) (now (p .bytes))) (rw (length-drop (p .at) (now (p .bytes))) (omega arith))))
-      (cases-eq (p .at) (length (now (p .bytes)))))
+    (λ n. ne-eqb (p .at) (length (now (p .bytes))) n ∙ sym (ap nothing-follows (pieces-some p g) ∙ rest-follows (p .mark) (drop (p .at) (now (p .bytes))) (rw (length-drop (p .at) (now (p .bytes))) (omega arith))))
+    (cases-eq (p .at) (length (now (p .bytes)))))
     (cases-lt (length (now (p .bytes))) (p .at))

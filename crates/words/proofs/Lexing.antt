@@ -35,11 +35,13 @@ unfolding cursor placed
 lex-none w e = ap (λ ps. first-word (cursor w .after) (placed (w .line) (w .pieces .at + 1) ps)) e
 
 pub lex-some : (w v : Words) (bytes : List ℕ) → v .line ≡ w .line → now (v .pieces .bytes) ≡ now (w .pieces .bytes) → pieces (w .pieces) ≡ bytes ∷ pieces (v .pieces)
-  → v .pieces .at ≡ w .pieces .at + length bytes + 1
-  → word (cursor w) ≡ Ok (record { word = spelling bytes; place = record { line = w .line; column = w .pieces .at + 1 } }, cursor v)
+    → v .pieces .at ≡ w .pieces .at + length bytes + 1
+    → word (cursor w) ≡ Ok (record { word = spelling bytes; place = record { line = w .line; column = w .pieces .at + 1 } }, cursor v)
 unfolding cursor placed
 lex-some w v bytes el eb e ea =
     let next : w .pieces .at + 1 + length bytes + 1 ≡ v .pieces .at + 1 = omega arith in
     ap (λ ps. first-word (cursor w .after) (placed (w .line) (w .pieces .at + 1) ps)) e
-    ∙ (λ i. Ok (record { word = spelling bytes; place = record { line = w .line; column = w .pieces .at + 1 } },
-      record { after = record { line = sym el i; column = length (sym eb i) + 1 }; items = placed (sym el i) (next i) (pieces (v .pieces)) }))
+    ∙ (λ i. Ok (
+      record { word = spelling bytes; place = record { line = w .line; column = w .pieces .at + 1 } },
+      record { after = record { line = sym el i; column = length (sym eb i) + 1 }; items = placed (sym el i) (next i) (pieces (v .pieces)) },
+    ))

@@ -15,7 +15,6 @@ use Rattle.words.specs.declared.faults.ReadFault.the-variants.{Form, Number}
 
 infixl 20 _>>=_
 infixl 20 _>>_
-
 -- What a step makes of the words that are left: a value and the words after it, or a fault.
 abbrev pub Parse : Type 0 → Type 0
 Parse X = Cursor → Result (X × Cursor) ReadFault

@@ -60,7 +60,7 @@ item t = record { word = spelt (t .word); place = t .place }
 unfoldable pub cursor : Words → Cursor
 cursor w = record {
   after = record { line = w .line; column = length (now (w .pieces .bytes)) + 1 };
-  items = placed (w .line) (w .pieces .at + 1) (pieces (w .pieces))
+  items = placed (w .line) (w .pieces .at + 1) (pieces (w .pieces));
 }
 
 -- Whether a word is this name.

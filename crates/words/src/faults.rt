@@ -1,6 +1,5 @@
 ghost use mathlib.Core.Path.{_≡_};
 ghost use Rattle.words.specs.Faults.{refusal};
-
 use frames::refusals::Fault;
 use frames::refusals::Layer;
 use frames::refusals::Refusal;

@@ -5,7 +5,6 @@ ghost use mathlib.Core.Bool.{true};
 ghost use mathlib.Core.Path.{_≡_};
 ghost use Rattle.words.specs.Bytes.{all-digits};
 ghost use Rattle.words.specs.Numbers.{between, gain, is-negative, negative, positive, read-on, unsigned, well-spelt, whole};
-
 use crate::bytes::all_digits;
 
 // The number that at most six digits write.
@@ -80,5 +79,9 @@ pub fn gain(bytes: &[u8]) -> Option<i16>
     ensures { λ r. ⌜ r ≡ gain (now (bytes .entry)) ⌝ }
 {
     let n = whole(digits_of(bytes));
-    if is_negative(bytes) { negative(n) } else { positive(n) }
+    if is_negative(bytes) {
+        negative(n)
+    } else {
+        positive(n)
+    }
 }

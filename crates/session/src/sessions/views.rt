@@ -1,7 +1,6 @@
 ghost use mathlib.Core.Path.{_≡_};
 ghost use Rattle.session.specs.Held.{nothing, setting};
 ghost use Rattle.session.specs.Sessions.{held};
-
 use crate::nodes::Line;
 use crate::nodes::Node;
 use crate::sessions::Session;
@@ -51,10 +50,6 @@ impl Session {
     pub fn setting(&self, s: usize) -> Setting
         ensures { λ r. ⌜ r ≡ setting (held (now (self .entry)) .settings) s ⌝ }
     {
-        if s < 8 {
-            self.settings[s]
-        } else {
-            UNSET
-        }
+        if s < 8 { self.settings[s] } else { UNSET }
     }
 }

@@ -4,7 +4,6 @@ ghost use mathlib.Core.List.{[], _∷_};
 ghost use mathlib.Core.Path.{_≡_};
 ghost use Rattle.std.specs.Options.{Cases as BySome};
 ghost use Rattle.words.specs.Pieces.{is-nil, nothing-follows, pieces, split, upto};
-
 use crate::pieces::Pieces;
 
 // Where the first mark stands, from `from` on, or the bytes' end.

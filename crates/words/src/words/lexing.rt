@@ -4,7 +4,6 @@ ghost use mathlib.Core.Path.{_≡_};
 ghost use Rattle.words.specs.Parsing.{no-more, paired, word};
 ghost use Rattle.words.specs.Pieces.{is-nil};
 ghost use Rattle.words.specs.Words.{cursor, has-digits, item, line-words, spelling, spelt};
-
 use crate::bytes::all_digits;
 use crate::bytes::all_letters;
 use crate::faults::Place;

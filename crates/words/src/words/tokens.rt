@@ -5,7 +5,6 @@ ghost use Rattle.std.specs.Vec.{made};
 ghost use Rattle.std.specs.shelf.Text.{sameBytes};
 ghost use Rattle.words.specs.Numbers.{between};
 ghost use Rattle.words.specs.Words.{gain-of, is-name, is-one, spelt, whole-of};
-
 use crate::faults::ReadFault;
 use crate::numbers::gain;
 use crate::numbers::whole;

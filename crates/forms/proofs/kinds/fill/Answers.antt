@@ -25,10 +25,12 @@ loop-i-again c =
     let g = c .in-Continue-taps .field-0 in
     let f : SFits w16 (c .in-Continue-taps .field-0) = search needs in
     let h = c .in-Continue-taps .ensures tt in
-    let n : c .args .count - c .loop-i .i ≡ suc (c .args .count - (c .loop-i .i + 1)) = omega arith in
-    (ap (λ z. taps-form (c .loop-i .i + 1) (c .args .count - (c .loop-i .i + 1)) (set (c .loop-i .taps) (c .loop-i .i) z) (cursor (c .gain .last .words))) (toZ-ofZ w16 g f)
-    ∙ sym (ap (λ m. taps-form (c .loop-i .i) m (c .loop-i .taps) (cursor (c .loop-i .words))) n ∙ taps-more (c .loop-i .i) _ (c .loop-i .taps) (cursor (c .loop-i .words)) g _ h)
-    ∙ c .loop-i .inv .0, length-set _ _ _ ∙ c .loop-i .inv .1)
+    let n : c .args .count - c .loop-i .i ≡ suc (c .args .count - (c .loop-i .i + 1)) = omega arith in (
+      ap (λ z. taps-form (c .loop-i .i + 1) (c .args .count - (c .loop-i .i + 1)) (set (c .loop-i .taps) (c .loop-i .i) z) (cursor (c .gain .last .words))) (toZ-ofZ w16 g f)
+          ∙ sym (ap (λ m. taps-form (c .loop-i .i) m (c .loop-i .taps) (cursor (c .loop-i .words))) n ∙ taps-more (c .loop-i .i) _ (c .loop-i .taps) (cursor (c .loop-i .words)) g _ h)
+          ∙ c .loop-i .inv .0,
+      length-set _ _ _ ∙ c .loop-i .inv .1,
+    )
 
 pub returns : need.returns
 returns c =

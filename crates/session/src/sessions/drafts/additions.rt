@@ -4,12 +4,11 @@ ghost use Rattle.session.specs.Contents.{contents, free, line-fits, no-content
 ghost use Rattle.session.specs.Drafts.{Answers-fit, draft};
 ghost use Rattle.session.specs.Sessions.{held};
 ghost use Rattle.std.specs.Results.{isOk};
-
-use crate::sessions::drafts::Draft;
-use crate::sessions::drafts::DraftFault;
 use crate::nodes::Line;
 use crate::nodes::Node;
 use crate::sessions::Session;
+use crate::sessions::drafts::Draft;
+use crate::sessions::drafts::DraftFault;
 use crate::settings::Setting;
 use std::alloc::Global;
 
@@ -73,7 +72,10 @@ impl Draft {
         ensures fits { λ r. ⌜ Answers-fit r (line-fits (draft (now (self .entry))) line) ⌝ }
         ensures after { λ r. ⌜ draft (now (self .exit)) ≡ cond (isOk r) (with-line (draft (now (self .entry))) line) (draft (now (self .entry))) ⌝ }
     {
-        if self.lines.len() >= 48 || usize::from(line.start) >= self.nodes.len() || !self.is_bus(line.end) {
+        if self.lines.len() >= 48
+            || usize::from(line.start) >= self.nodes.len()
+            || !self.is_bus(line.end)
+        {
             return Err(DraftFault::Unfit);
         }
         match self.lines.push(line) {

@@ -7,7 +7,6 @@ ghost use Rattle.session.specs.Drafts.{draft};
 ghost use Rattle.session.specs.Held.{unset};
 ghost use Rattle.session.specs.Tables.{passed-by, with-gain, with-kind};
 ghost use Rattle.std.specs.declared.option.Option.the-variants.{Some};
-
 use crate::sessions::drafts::Draft;
 use crate::settings::Kind;
 use crate::settings::Setting;

@@ -3,10 +3,9 @@ ghost use mathlib.Core.Path.{_≡_};
 ghost use Rattle.session.specs.Contents.{bus-at, entry, entry-at, has-bypass, has-trim, is-set, names-unit, used};
 ghost use Rattle.session.specs.Drafts.{draft};
 ghost use Rattle.std.specs.Options.{isSome};
-
-use crate::sessions::drafts::Draft;
 use crate::nodes::Node;
 use crate::nodes::Source;
+use crate::sessions::drafts::Draft;
 use crate::settings::Setting;
 
 const UNSET: Setting = Setting {

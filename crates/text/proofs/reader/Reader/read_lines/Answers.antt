@@ -19,8 +19,8 @@ returns-in-Break-ended c =
     let d = draft (c .loop-line .self .draft) in
     record {
       does = gives-err _ (c .from-residual .result) _ (c .in-Break-ended .field-0 .0) (p .1 ∙ ap Err (p .2))
-        (λ m. sym (c .loop-line .inv .0) ∙ ap (lines-read row st d) (c .in-Some .ensures tt .cut .0)
-        ∙ lines-err row st d (c .in-Some .line .now) (pieces (c .next .last .self)) _ (ap (line-read row st d (c .in-Some .line .now)) (sym (c .is-done .ensures)) ∙ c .in-Break-ended .ensures tt .does m));
+          (λ m. sym (c .loop-line .inv .0) ∙ ap (lines-read row st d) (c .in-Some .ensures tt .cut .0)
+          ∙ lines-err row st d (c .in-Some .line .now) (pieces (c .next .last .self)) _ (ap (line-read row st d (c .in-Some .line .now)) (sym (c .is-done .ensures)) ∙ c .in-Break-ended .ensures tt .does m));
       ready = λ _. made-from-err (c .from-residual .result) _ (c .from-residual .ensures .0);
     }
 
@@ -32,8 +32,8 @@ returns-then-ended c =
     let h = c .in-Continue-ended .ensures tt in
     record {
       does = gives-closed row (pieces (c .next .last .self)) (draft (c .read-line .last .self .draft)) (c .close .result) _ (c .close .ensures)
-        (sym (c .loop-line .inv .0) ∙ ap (lines-read row st d) (c .in-Some .ensures tt .cut .0)
-        ∙ lines-end row st d (c .in-Some .line .now) (pieces (c .next .last .self)) _ (ap (line-read row st d (c .in-Some .line .now)) (sym (c .is-done .ensures)) ∙ h .does) (c .if-ended .taken));
+          (sym (c .loop-line .inv .0) ∙ ap (lines-read row st d) (c .in-Some .ensures tt .cut .0)
+          ∙ lines-end row st d (c .in-Some .line .now) (pieces (c .next .last .self)) _ (ap (line-read row st d (c .in-Some .line .now)) (sym (c .is-done .ensures)) ∙ h .does) (c .if-ended .taken));
       ready = λ s. made-always (c .close .result) (ready (draft (c .read-line .last .self .draft)) ≡ true) (h .staged (c .loop-line .inv .1 s) .1 (c .if-ended .taken));
     }
 
@@ -44,11 +44,12 @@ loop-line-again c =
     let d = draft (c .loop-line .self .draft) in
     let h = c .in-Continue-ended .ensures tt in
     let e = c .in-Some .ensures tt .cut in
-    let i = c .loop-line .inv .2 in
-    (sym (ap (lines-read row st d) (e .0)
-    ∙ lines-more row st d (c .in-Some .line .now) (pieces (c .next .last .self)) _ (ap (line-read row st d (c .in-Some .line .now)) (sym (c .is-done .ensures)) ∙ h .does) (c .if-ended .left)) ∙ c .loop-line .inv .0,
-    λ s. h .staged (c .loop-line .inv .1 s) .0,
-    omega (arith, e .1))
+    let i = c .loop-line .inv .2 in (
+      sym (ap (lines-read row st d) (e .0)
+          ∙ lines-more row st d (c .in-Some .line .now) (pieces (c .next .last .self)) _ (ap (line-read row st d (c .in-Some .line .now)) (sym (c .is-done .ensures)) ∙ h .does) (c .if-ended .left)) ∙ c .loop-line .inv .0,
+      λ s. h .staged (c .loop-line .inv .1 s) .0,
+      omega (arith, e .1),
+    )
 
 pub returns : need.returns
 returns c =

@@ -23,7 +23,7 @@ returns-in-Ok c =
     let d = draft (c .turn .last .draft) in
     record {
       does = turn-ok (c .args .self .now .stage) (draft (c .args .self .now .draft)) (cursor (c .args .words .now)) (item (c .in-Continue-word .word)) (cursor (c .word .last .self)) (c .first-of-first .result) (c .in-Continue-word .ensures tt) (c .first-of-first .ensures) due d (cursor (c .turn .last .words)) (c .in-Ok .ensures tt .does)
-        ∙ ap₂ (λ s e. Ok (record { stage = s; held = d; ended = e }, cursor (c .turn .last .words))) (sym (c .advance .ensures .after)) (sym (c .is-end .ensures));
+          ∙ ap₂ (λ s e. Ok (record { stage = s; held = d; ended = e }, cursor (c .turn .last .words))) (sym (c .advance .ensures .after)) (sym (c .is-end .ensures));
       staged = λ h. let p = staged-on (c .args .self .now .stage) (c .first-of-first .result) (draft (c .args .self .now .draft)) d due h (c .in-Ok .ensures tt .grows) in
-        (subst (λ s. staged s d ≡ true) (sym (c .advance .ensures .after)) (p .0), λ e. p .1 (sym (c .is-end .ensures) ∙ e));
+          (subst (λ s. staged s d ≡ true) (sym (c .advance .ensures .after)) (p .0), λ e. p .1 (sym (c .is-end .ensures) ∙ e));
     }
