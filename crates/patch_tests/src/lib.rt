@@ -55,24 +55,59 @@ mod tests {
 
     #[test]
     fn a_bus_alone(rt: LibcRuntime) -> Result<(), Fail> {
-        same(rt.alloc(), b"session 1 48000\nnode 0 bus\nend\n", Wanted { late: &[0], held: &[], refused: 0 })
+        same(
+            rt.alloc(),
+            b"session 1 48000\nnode 0 bus\nend\n",
+            Wanted {
+                late: &[0],
+                held: &[],
+                refused: 0,
+            },
+        )
     }
 
     #[test]
     fn late_paths_are_waited_for(rt: LibcRuntime) -> Result<(), Fail> {
-        let text = b"session 1 48000\nunit 0 fir 21 1 1 1 1 1 1 1 1 1 1 1 1 1 1 1 1 1 1 1 1 1\nunit 2 limit 40 9\nnode 0 bus\nnode 1 track 0 unit 2\nnode 2 track 1\nnode 3 bus unit 0\nline 1 0 16384\nline 2 3 16384\nline 3 0 16384\nend\n";
-        same(rt.alloc(), text, Wanted { late: &[40, 40, 0, 10], held: &[0, 0, 30], refused: 0 })
+        let text =
+            b"session 1 48000\nunit 0 fir 21 1 1 1 1 1 1 1 1 1 1 1 1 1 1 1 1 1 1 1 1 1\nunit 2 limit 40 9\nnode 0 bus\nnode 1 track 0 unit 2\nnode 2 track 1\nnode 3 bus unit 0\nline 1 0 16384\nline 2 3 16384\nline 3 0 16384\nend\n";
+        same(
+            rt.alloc(),
+            text,
+            Wanted {
+                late: &[40, 40, 0, 10],
+                held: &[0, 0, 30],
+                refused: 0,
+            },
+        )
     }
 
     #[test]
     fn two_lines_side_by_side(rt: LibcRuntime) -> Result<(), Fail> {
-        let text = b"session 1 48000\nunit 2 limit 7 9\nnode 0 bus\nnode 1 track 0 unit 2\nnode 2 track 0\nline 2 0 1\nline 1 0 1\nline 2 0 2\nend\n";
-        same(rt.alloc(), text, Wanted { late: &[7, 7, 0], held: &[7, 0, 7], refused: 0 })
+        let text =
+            b"session 1 48000\nunit 2 limit 7 9\nnode 0 bus\nnode 1 track 0 unit 2\nnode 2 track 0\nline 2 0 1\nline 1 0 1\nline 2 0 2\nend\n";
+        same(
+            rt.alloc(),
+            text,
+            Wanted {
+                late: &[7, 7, 0],
+                held: &[7, 0, 7],
+                refused: 0,
+            },
+        )
     }
 
     #[test]
     fn a_loop_cannot_be_placed(rt: LibcRuntime) -> Result<(), Fail> {
-        let text = b"session 1 48000\nnode 0 bus\nnode 1 bus\nnode 2 bus\nline 1 2 1\nline 2 1 1\nline 2 0 1\nend\n";
-        same(rt.alloc(), text, Wanted { late: &[], held: &[], refused: 21 })
+        let text =
+            b"session 1 48000\nnode 0 bus\nnode 1 bus\nnode 2 bus\nline 1 2 1\nline 2 1 1\nline 2 0 1\nend\n";
+        same(
+            rt.alloc(),
+            text,
+            Wanted {
+                late: &[],
+                held: &[],
+                refused: 21,
+            },
+        )
     }
 }

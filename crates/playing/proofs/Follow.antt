@@ -74,7 +74,6 @@ module _ (p : Plan) (rack : List (Meaning Frame)) (reel : Tracks) (delay : ℕ �
     (n v : ℕ) (l : v < length (p .nodes)) (upto : ℕ → ℕ) (at : upto v ≡ n)
     (starts : (i : ℕ) → i < length (p .lines) → line p i .end ≡ v → upto (line p i .start) ≡ suc n)
     (d : Deck) (f : Follows p rack reel delay x upto d) where
-
   -- it hears what comes in under the patch
   from-source : (source : Source) → input p reel delay (on-tape (d .tape)) v source (pos n) ≡ input p reel delay x v source (pos n)
   from-source (Track track) = refl
@@ -157,8 +156,9 @@ module _ (p : Plan) (rack : List (Meaning Frame)) (reel : Tracks) (delay : ℕ �
   same-of part keeps None g t = refl
   same-of part keeps (Some s) g t =
       elim (cases-eq t s) [
-        inl e ↦ ap (λ j. part (unit (stepped (d .units) s g) j)) e ∙ ap part (unit-moved (d .units) s g) ∙ keeps (unit (d .units) s) g ∙ ap (λ j. part (unit (d .units) j)) (sym e)
-      | inr ne ↦ ap part (unit-unmoved (d .units) s t g ne) ]
+        | inl e ↦ ap (λ j. part (unit (stepped (d .units) s g) j)) e ∙ ap part (unit-moved (d .units) s g) ∙ keeps (unit (d .units) s) g ∙ ap (λ j. part (unit (d .units) j)) (sym e)
+        | inr ne ↦ ap part (unit-unmoved (d .units) s t g ne)
+      ]
 
   some-same : (s t : ℕ) (o : Option ℕ) → o ≡ Some s → o ≡ Some t → t ≡ s
   some-same s t o a b = cc

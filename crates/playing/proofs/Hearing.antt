@@ -101,5 +101,6 @@ stepped-lawful units s f laws = record { few = rw (length-set units s (heard-by 
     each t h =
         let l : t < length units = rw (length-set units s (heard-by (unit units s) f)) at h in
         elim (cases-eq t s) [
-          inl e ↦ subst (λ k. Lawful silence (unit (stepped units s f) k)) (sym e) (subst (Lawful silence) (sym (unit-moved units s f)) (heard-lawful (unit units s) f (laws .each s (rw e at l))))
-        | inr ne ↦ subst (Lawful silence) (sym (unit-unmoved units s t f ne)) (laws .each t l) ]
+          | inl e ↦ subst (λ k. Lawful silence (unit (stepped units s f) k)) (sym e) (subst (Lawful silence) (sym (unit-moved units s f)) (heard-lawful (unit units s) f (laws .each s (rw e at l))))
+          | inr ne ↦ subst (Lawful silence) (sym (unit-unmoved units s t f ne)) (laws .each t l)
+        ]

@@ -102,7 +102,7 @@ module _ (p : Plan) (rack : List (Meaning Frame)) (reel : Tracks) (order : List 
       let at : place v ≡ k = ap place here ∙ own .1 in
       let l : v < length (p .nodes) = subst (λ w. w < length (p .nodes)) (sym here) (own .0) in
       let next = node-follows p rack reel delay x rules short run quiet n v l (reached n k) (reached-not n k v (omega arith))
-            (λ i b q. reached-yes n k (line p i .start) (let before = ordered .before i b in let z : place (line p i .end) ≡ k = ap place q ∙ at in omega arith)) d f in
+      (λ i b q. reached-yes n k (line p i .start) (let before = ordered .before i b in let z : place (line p i .end) ≡ k = ap place q ∙ at in omega arith)) d f in
       subst (λ j. Follows p rack reel delay x (reached n j) (folded (node-work p delay reel n) (node-work p delay reel n d v) vs)) (let z : k + 1 + length vs ≡ k + length (v ∷ vs) = omega arith in z)
       (along n vs (k + 1) (node-work p delay reel n d v) (omega arith)
       (λ j h. same (suc j) (omega arith) ∙ ap (λ i. getD order i 0) (let z : k + suc j ≡ k + 1 + j = omega arith in z))
@@ -128,9 +128,10 @@ module _ (p : Plan) (rack : List (Meaning Frame)) (reel : Tracks) (order : List 
       let next = frame-follows n d f in
       let e : suc n ≡ n + 1 = omega arith in
       let more = plays k (n + 1) (frame-work p order delay reel n d) some (subst (λ j. Follows p rack reel delay x (λ _. j) (frame-work p order delay reel n d)) e next) in
-      let up : pos (n + 1) ≡ pos n +ℤ pos 1 = omega (arith, ints) in
-      (ap₂ _∷_ (out n (frame-work p order delay reel n d) some next) (more .0 ∙ ap (λ b. span (x 0) b k) up),
-      subst (λ j. Follows p rack reel delay x (λ _. j) (after-frames p order delay reel (suc k) n d)) (let z : n + 1 + k ≡ n + suc k = omega arith in z) (more .1))
+      let up : pos (n + 1) ≡ pos n +ℤ pos 1 = omega (arith, ints) in (
+        ap₂ _∷_ (out n (frame-work p order delay reel n d) some next) (more .0 ∙ ap (λ b. span (x 0) b k) up),
+        subst (λ j. Follows p rack reel delay x (λ _. j) (after-frames p order delay reel (suc k) n d)) (let z : n + 1 + k ≡ n + suc k = omega arith in z) (more .1),
+      )
 
   -- at rest, with a silent tape, nothing is played
   pub at-first : At-rest rack → Follows p rack reel delay x (λ _. 0) (record { units = rack; tape = silent-tape })
@@ -157,5 +158,5 @@ plays-the-patch p units reel order place delay x rules laws rested ordered some 
     let first = plays p units reel order place delay x rules laws ordered short run j 0 d some (at-first p units reel order place delay x rules laws ordered short run rested) in
     let e : 0 + j ≡ j = omega arith in
     let second = plays p units reel order place delay x rules laws ordered short run k j (after-frames p order delay reel j 0 d) some
-          (subst (λ i. Follows p units reel delay x (λ _. i) (after-frames p order delay reel j 0 d)) e (first .1)) in
+    (subst (λ i. Follows p units reel delay x (λ _. i) (after-frames p order delay reel j 0 d)) e (first .1)) in
     ap₂ _++_ (first .0) (second .0 ∙ ap (λ b. span (x 0) b k) (let z : pos j ≡ pos 0 +ℤ pos j = omega (arith, ints) in z)) ∙ span-append (x 0) (pos 0) j k

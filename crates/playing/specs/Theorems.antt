@@ -31,5 +31,5 @@ Plays-the-patch = (p : Plan) (units : List (Meaning Frame)) (reel : Tracks) (ord
     → Keeps-rules p → Rack-laws units → At-rest units → In-order p order place → 0 < length (p .nodes)
     → ((i : ℕ) → i < length (p .lines) → delay i ≤ 1023) → Under p units reel delay x
     → (j k : ℕ) → frames-out p order delay reel j 0 (record { units = units; tape = silent-tape })
-        ++ frames-out p order delay reel k j (after-frames p order delay reel j 0 (record { units = units; tape = silent-tape }))
-        ≡ span (x 0) (pos 0) (j + k)
+    ++ frames-out p order delay reel k j (after-frames p order delay reel j 0 (record { units = units; tape = silent-tape }))
+    ≡ span (x 0) (pos 0) (j + k)

@@ -3,7 +3,6 @@ ghost use lib.ListN.{getD, length};
 ghost use mathlib.Core.Path.{_≡_};
 ghost use Rattle.playing.specs.Arranged.{cut-plan, no-line};
 ghost use Rattle.session.specs.Plan.{lines-into};
-
 use session::nodes::Line;
 use session::nodes::Node;
 

@@ -17,9 +17,16 @@ use units::limit::LimitUnit;
 use units::pan::PanUnit;
 use units::trim::TrimUnit;
 
-const TEXT: &[u8] = b"session 1 48000\nunit 0 fir 3 4096 8192 4096\nunit 1 fir 1 16384\nunit 2 limit 1 10000\nunit 3 limit 0 1\nunit 4 pan 0\nunit 5 pan 128\nunit 6 delay 2\nunit 7 delay 1\nlayer 0 trim 8192\nlayer 1 trim -16384\nlayer 2 bypass\nlayer 5 trim 30000\nlayer 6 trim 32767\nlayer 6 bypass\nnode 0 bus\nend\n";
+const TEXT: &[u8] =
+    b"session 1 48000\nunit 0 fir 3 4096 8192 4096\nunit 1 fir 1 16384\nunit 2 limit 1 10000\nunit 3 limit 0 1\nunit 4 pan 0\nunit 5 pan 128\nunit 6 delay 2\nunit 7 delay 1\nlayer 0 trim 8192\nlayer 1 trim -16384\nlayer 2 bypass\nlayer 5 trim 30000\nlayer 6 trim 32767\nlayer 6 bypass\nnode 0 bus\nend\n";
 
-fn answer<R: Rack>(rt: &LibcRuntime, rack: &mut R, s: u8, left: i16, right: i16) -> Result<(), AnyError> {
+fn answer<R: Rack>(
+    rt: &LibcRuntime,
+    rack: &mut R,
+    s: u8,
+    left: i16,
+    right: i16,
+) -> Result<(), AnyError> {
     let f = rack.step(s, Frame { left, right });
     let left = f.left;
     let right = f.right;

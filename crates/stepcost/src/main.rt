@@ -34,7 +34,9 @@ fn checksum<U: Unit>(unit: &mut U, count: u32) -> u32 {
     let mut sum: u32 = 0;
     for n in 0..count {
         let f = unit.step(frame(n));
-        sum = sum.wrapping_mul(31).wrapping_add(u32::from(f.left.cast_unsigned()) ^ u32::from(f.right.cast_unsigned()));
+        sum = sum.wrapping_mul(31).wrapping_add(
+            u32::from(f.left.cast_unsigned()) ^ u32::from(f.right.cast_unsigned()),
+        );
     }
     sum
 }
@@ -55,8 +57,17 @@ fn kind(name: &str, count: u32) -> Option<u32> {
         "limit" => Some(checksum(&mut Limit::new(limit), count)),
         "pan" => Some(checksum(&mut Pan::new(PanSettings { position: 100 }), count)),
         "delay" => Some(checksum(&mut Delay::new(DelaySettings { frames: 63 }), count)),
-        "bypass" => Some(checksum(&mut Bypass::new(Limit::new(limit), BypassSettings { on: true }), count)),
-        "trim" => Some(checksum(&mut Trim::new(Delay::new(DelaySettings { frames: 63 }), TrimSettings { gain: 8192 }), count)),
+        "bypass" => Some(checksum(
+            &mut Bypass::new(Limit::new(limit), BypassSettings { on: true }),
+            count,
+        )),
+        "trim" => Some(checksum(
+            &mut Trim::new(
+                Delay::new(DelaySettings { frames: 63 }),
+                TrimSettings { gain: 8192 },
+            ),
+            count,
+        )),
         _ => None,
     }
 }

@@ -1,7 +1,6 @@
 ghost use mathlib.Core.List.{[]};
 ghost use mathlib.Core.Path.{_≡_};
 ghost use Rattle.playing.specs.Desks.{desk-order, desk-plan};
-
 use crate::desks::Desk;
 use session::nodes::Line;
 use session::nodes::Node;

@@ -11,7 +11,6 @@ ghost use Rattle.playing.specs.Tape.{on-tape, slot};
 ghost use Rattle.playing.specs.Work.{deck, frame-work, given, hears, moved, node-work};
 ghost use Rattle.session.specs.Plan.{lines-into, node};
 ghost use Rattle.signals.specs.Signals.{brought};
-
 use crate::desks::Desk;
 use frames::samples::Frame;
 use frames::samples::Part;
@@ -106,7 +105,13 @@ impl Desk {
 
     // The work on frame `n`, on each node in the order placed. A tape of another length than 16,384 stays, and so does the
     // rack.
-    pub(crate) fn play_frame<R: Rack, L: Reel>(&self, rack: &mut R, reel: &L, tape: &mut [Frame], n: u32) -> bool
+    pub(crate) fn play_frame<R: Rack, L: Reel>(
+        &self,
+        rack: &mut R,
+        reel: &L,
+        tape: &mut [Frame],
+        n: u32,
+    ) -> bool
         ensures room { λ r. ⌜ r ≡ eqb (length (now (tape .entry))) 16384 ⌝ }
         ensures work { λ r. ⌜ deck (units (now (rack .exit))) (now (tape .exit)) ≡ cond r (frame-work (desk-plan (now (self .entry))) (desk-order (now (self .entry))) (desk-delay (now (self .entry))) (tracks (now (reel .entry))) n (deck (units (now (rack .entry))) (now (tape .entry)))) (deck (units (now (rack .entry))) (now (tape .entry))) ⌝ }
     {

@@ -14,10 +14,25 @@ none : (j : ℕ) → j < 0 → ⊥
 none j h = omega arith
 
 pub ghost-result : need.ghost-result
-ghost-result c =
-    ((refl, refl, refl, refl), ((refl, refl, refl), ((omega arith, omega arith),
-    (λ i h. subst (λ l. l .start < 16) (sym (all-alike 48 i no-line)) (omega arith),
-    (λ k h. absurd (omega arith),
-    (λ v h. all-alike 16 v 0,
-    (λ v h. subst (λ k. k + k ≤ 48) (sym (all-alike 16 v 0)) (omega arith),
-    (λ v j h. absurd (none j (subst (λ k. j < k) (all-alike 16 v 0) (h .1))), tt))))))))
+ghost-result c = (
+  (refl, refl, refl, refl),
+  (
+    (refl, refl, refl),
+    (
+      (omega arith, omega arith),
+      (
+        λ i h. subst (λ l. l .start < 16) (sym (all-alike 48 i no-line)) (omega arith),
+        (
+          λ k h. absurd (omega arith),
+          (
+            λ v h. all-alike 16 v 0,
+            (
+              λ v h. subst (λ k. k + k ≤ 48) (sym (all-alike 16 v 0)) (omega arith),
+              (λ v j h. absurd (none j (subst (λ k. j < k) (all-alike 16 v 0) (h .1))), tt),
+            ),
+          ),
+        ),
+      ),
+    ),
+  ),
+)

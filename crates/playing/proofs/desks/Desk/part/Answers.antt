@@ -18,7 +18,7 @@ returns c =
     let d = c .args .self .now in
     let i = c .args .i in
     let same : getD (d .lines) (c .from .result) no-line ≡ line (desk-plan d) i =
-          ap (λ j. getD (d .lines) j no-line) (c .from .ensures) ∙ sym (getD-take (d .total) (d .lines) i no-line (c .pre .0)) in
+    ap (λ j. getD (d .lines) j no-line) (c .from .ensures) ∙ sym (getD-take (d .total) (d .lines) i no-line (c .pre .0)) in
     let fits : SFits w16 (getD (d .lines) (c .from .result) no-line .gain) = search needs in
     ap₂ (λ f g. record { frame = f; gain = g })
     (ap (λ k. getD (c .args .tape .now) k silence) (c .place-at .ensures ∙ ap₂ (λ l h. slot (l .start) (pos (c .args .n) -ℤ pos h)) same (ap (λ j. getD (d .held) j 0) (c .from-2 .ensures))))

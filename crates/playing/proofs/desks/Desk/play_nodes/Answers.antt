@@ -17,10 +17,11 @@ loop-k-again g c =
     let first = deck (g .R·Rack .units (c .args .rack .now)) (c .args .tape .now) in
     let long : length (c .play-node .last .tape) ≡ 16384 = search needs in
     let all : length (desk-order d) ≡ d .count = length-take-le (d .count) (d .order) (omega arith) in
-    let inside : k < length (desk-order d) = omega arith in
-    (long,
-    c .play-node .ensures ∙ ap₂ work (c .loop-k .inv .1) (sym (getD-take (d .count) (d .order) k 0 (c .loop-k-test .taken)))
-    ∙ sym (folded-more work first (desk-order d) k 0 inside))
+    let inside : k < length (desk-order d) = omega arith in (
+      long,
+      c .play-node .ensures ∙ ap₂ work (c .loop-k .inv .1) (sym (getD-take (d .count) (d .order) k 0 (c .loop-k-test .taken)))
+          ∙ sym (folded-more work first (desk-order d) k 0 inside),
+    )
 
 pub returns : need.returns
 returns g c =
