@@ -110,4 +110,87 @@ mod tests {
             },
         )
     }
+
+    #[test]
+    fn sixteen_nodes_and_forty_eight_lines(rt: LibcRuntime) -> Result<(), Fail> {
+        let text =
+            b"session 1 48000\nunit 0 fir 31 1 1 1 1 1 1 1 1 1 1 1 1 1 1 1 1 1 1 1 1 1 1 1 1 1 1 1 1 1 1 1\nunit 1 fir 31 1 1 1 1 1 1 1 1 1 1 1 1 1 1 1 1 1 1 1 1 1 1 1 1 1 1 1 1 1 1 1\nunit 2 limit 63 9\nunit 3 limit 63 9\nnode 0 bus\nnode 1 bus\nnode 2 bus\nnode 3 bus\nnode 4 bus\nnode 5 bus\nnode 6 bus\nnode 7 bus\nnode 8 bus\nnode 9 bus\nnode 10 bus\nnode 11 bus\nnode 12 bus unit 1\nnode 13 bus unit 0\nnode 14 bus unit 3\nnode 15 track 0 unit 2\nline 1 0 1\nline 2 1 1\nline 3 2 1\nline 4 3 1\nline 5 4 1\nline 6 5 1\nline 7 6 1\nline 8 7 1\nline 9 8 1\nline 10 9 1\nline 11 10 1\nline 12 11 1\nline 13 12 1\nline 14 13 1\nline 15 14 1\nline 2 0 1\nline 3 0 1\nline 4 0 1\nline 5 0 1\nline 6 0 1\nline 7 0 1\nline 8 0 1\nline 9 0 1\nline 10 0 1\nline 11 0 1\nline 12 0 1\nline 13 0 1\nline 14 0 1\nline 15 0 1\nline 3 1 1\nline 4 1 1\nline 5 1 1\nline 6 1 1\nline 7 1 1\nline 8 1 1\nline 9 1 1\nline 10 1 1\nline 11 1 1\nline 12 1 1\nline 13 1 1\nline 14 1 1\nline 15 1 1\nline 4 2 1\nline 5 2 1\nline 6 2 1\nline 7 2 1\nline 8 2 1\nline 9 2 1\nend\n";
+        let late = [
+            156,
+            156,
+            156,
+            156,
+            156,
+            156,
+            156,
+            156,
+            156,
+            156,
+            156,
+            156,
+            156,
+            141,
+            126,
+            63,
+        ];
+        let held = [
+            0,
+            0,
+            0,
+            0,
+            0,
+            0,
+            0,
+            0,
+            0,
+            0,
+            0,
+            0,
+            0,
+            0,
+            0,
+            0,
+            0,
+            0,
+            0,
+            0,
+            0,
+            0,
+            0,
+            0,
+            0,
+            0,
+            15,
+            30,
+            93,
+            0,
+            0,
+            0,
+            0,
+            0,
+            0,
+            0,
+            0,
+            0,
+            0,
+            15,
+            30,
+            93,
+            0,
+            0,
+            0,
+            0,
+            0,
+            0,
+        ];
+        same(
+            rt.alloc(),
+            text,
+            Wanted {
+                late: &late,
+                held: &held,
+                refused: 0,
+            },
+        )
+    }
 }
