@@ -1,5 +1,12 @@
-// The forms of the lines of a session text, and what each line does to a draft.
+// The forms of the lines of a session text, word by word.
 mod forms;
 mod kinds;
 mod roles;
-pub mod turns;
+
+pub use crate::forms::gain;
+pub use crate::forms::line;
+pub use crate::forms::node;
+pub use crate::forms::numbered;
+pub use crate::forms::session;
+pub use crate::kinds::kind;
+pub use crate::roles::Role;

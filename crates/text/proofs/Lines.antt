@@ -10,7 +10,7 @@ use Rattle.std.specs.declared.result.Result.{Result}
 use Rattle.std.specs.declared.result.Result.the-variants.{Ok, Err}
 use Rattle.words.specs.Pieces.{is-nil, nothing-follows}
 use Rattle.text.specs.Reading.{Gives, closed, line-read, lines-read, passes}
-use Rattle.forms.specs.Turns.{wants-memory}
+use Rattle.turns.specs.Turns.{wants-memory}
 use Rattle.text.specs.Turning.{Turned}
 use Rattle.words.specs.declared.faults.ReadFault.{ReadFault}
 use Rattle.words.specs.declared.faults.ReadFault.the-variants.{Byte, Rest}

@@ -10,7 +10,7 @@ use mathlib.Core.Logic.{_⊎_, inl, inr, ⊎-elim}
 use mathlib.Core.Path.{_≡_, refl, ap, ap₂, sym, subst, _∙_}
 use native.Mathlib.Omega.{arith}
 use Rattle.forms.specs.Forms.{bypass-form, count-form, delay-form, fir-form, given-layer, joined-form, kind-form, layer-form, limit-form, line-form, node-form, numbered, pan-form, role-fits, role-most, session-form, some-unit, source-form, taps-form, trim-form, unit-form, unit-or-none, unit-part}
-use Rattle.forms.specs.Turns.{line-turn, node-turn, session-turn, unit-turn}
+use Rattle.turns.specs.Turns.{line-turn, node-turn, session-turn, unit-turn}
 use Rattle.forms.specs.declared.roles.Role.the-variants.{NewUnit, SetUnit, FreeUnit, NextNode, AnyNode, BusNode}
 use Rattle.session.specs.Contents.{Contents, Effect, bus-at, delay, fir, has-bypass, has-trim, is-set, limit, pan, with-bypass, with-line, with-node, with-rate, with-trim, with-unit}
 use Rattle.std.proofs.shelf.Lists.{append-nil}

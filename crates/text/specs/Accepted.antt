@@ -4,7 +4,7 @@ use lib.ListN.{length}
 use mathlib.Core.Bool.{false}
 use mathlib.Core.List.{List}
 use mathlib.Core.Path.{_≡_}
-use Rattle.forms.specs.Turns.{wants-memory}
+use Rattle.turns.specs.Turns.{wants-memory}
 use Rattle.session.specs.Contents.{Contents}
 use Rattle.std.specs.declared.result.Result.{Result}
 use Rattle.std.specs.declared.result.Result.the-variants.{Ok, Err}

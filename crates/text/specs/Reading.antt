@@ -10,7 +10,7 @@ use Rattle.std.specs.declared.result.Result.{Result}
 use Rattle.std.specs.declared.result.Result.the-variants.{Ok, Err}
 use Rattle.words.specs.Bytes.{known-run}
 use Rattle.words.specs.Pieces.{is-nil, nothing-follows, split}
-use Rattle.forms.specs.Turns.{wants-memory}
+use Rattle.turns.specs.Turns.{wants-memory}
 use Rattle.text.specs.Turning.{Turned, whole-turn}
 use Rattle.words.specs.Words.{Cursor, line-words}
 use Rattle.words.specs.declared.faults.ReadFault.{ReadFault}

@@ -5,7 +5,7 @@ use lib.ListN.{length}
 use mathlib.Core.Bool.{Bool, true}
 use mathlib.Core.Path.{_≡_}
 use Rattle.forms.specs.Forms.{layer-form}
-use Rattle.forms.specs.Turns.{line-turn, node-turn, session-turn, unit-turn}
+use Rattle.turns.specs.Turns.{line-turn, node-turn, session-turn, unit-turn}
 use Rattle.session.specs.Contents.{Contents, ready}
 use Rattle.text.specs.Stages.{first-of, is-end, next-stage}
 use Rattle.text.specs.declared.stages.First.{First}

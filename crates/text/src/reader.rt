@@ -9,7 +9,7 @@ ghost use Rattle.session.specs.Sessions.{held};
 ghost use Rattle.std.specs.Vec.{made, refused};
 ghost use Rattle.text.specs.Accepted.{Accepts};
 ghost use Rattle.text.specs.Reading.{Gives, closed, line-read, lines-read, reading};
-ghost use Rattle.forms.specs.Turns.{Does};
+ghost use Rattle.turns.specs.Turns.{Does};
 ghost use Rattle.text.specs.Turning.{staged, whole-turn};
 ghost use Rattle.text.specs.Stages.{is-end};
 ghost use Rattle.words.specs.Pieces.{pieces, split};

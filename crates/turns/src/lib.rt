@@ -1,0 +1,2 @@
+// What each line of a session text does to a draft.
+pub mod turns;
