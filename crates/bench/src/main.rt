@@ -1,6 +1,8 @@
 // Plays a session of 16 nodes, 48 lines and eight units, four of them late, and prints a checksum of the frames; and the
 // same with 15 of the lines. With a number it plays so many frames of the first, and with `few` after that of the second, so
 // that the cost of a frame can be counted. With `end` it plays one bus to the end of the position, and what comes then.
+#![tactic(auto)]
+
 use anyhow::anyhow;
 use console::consoles::Console;
 use console::faults::ConsoleFault;

@@ -1,4 +1,6 @@
 // The console's calls, made from outside.
+#![tactic(auto)]
+
 #[cfg(test)]
 mod tests {
     use console::consoles::Console;

@@ -1,4 +1,6 @@
 // Worked examples of the console's rules, run as tests.
+#![tactic(auto)]
+
 #[cfg(test)]
 mod bytes;
 #[cfg(test)]

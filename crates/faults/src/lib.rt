@@ -1,4 +1,6 @@
 // Every refusal of the console's parts, as one type.
+#![tactic(auto)]
+
 pub mod told;
 
 use console::faults::ConsoleFault;

@@ -85,7 +85,7 @@ is_delay (limit a c) = false
 is_delay (pan p) = false
 is_delay (delay k) = true
 
--- The kind that unit s has to have: a fir to 1, a limit to 3, a pan to 5, and then a delay.
+-- The kind that unit s has to have.
 abbrev pub kind_form : ℕ → Parse Effect
 kind_form s = cond (nat_lt s 2) fir_form (cond (nat_lt s 4) limit_form (cond (nat_lt s 6) pan_form delay_form))
 

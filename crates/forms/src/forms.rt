@@ -2,7 +2,7 @@ ghost use Rattle.std.specs.Prelude.{◌≡◌, ◌≤◌, true, length, IfOk, na
 ghost use Rattle.session.specs.Contents.{bus_at, free, line_fits, node_fits};
 ghost use Rattle.session.specs.Drafts.{draft as contents-of};
 ghost use Rattle.forms.specs.Forms.{joined_form, line_form, node_form, numbered, role_fits, role_most, session_form, some_unit, source_form, unit_part};
-ghost use Rattle.words.specs.Parsing.{gain_word, keyword, paired, ranged, without_first};
+ghost use Rattle.words.specs.Parsing.{gain_word, keyword, paired, ranged};
 ghost use Rattle.words.specs.Words.{cursor, item};
 
 use crate::roles::{Role, fits, most};
@@ -11,11 +11,10 @@ use session::sessions::drafts::Draft;
 use words::faults::ReadFault;
 use words::words::{Token, Words};
 
-// A unit's or a node's number. One word is taken, fit or not.
+// A unit's or a node's number.
 pub fn numbered(draft: &Draft, role: Role, words: &mut Words<'_>) -> Result<u8, ReadFault>
     ensures value { paired (λ x. x) result (cursor words.new) ≡ numbered (contents-of draft.now) role (cursor words.old) }
     ensures fits { IfOk result (λ n. (n ≤ role_most role) × (role_fits (contents-of draft.now) role n ≡ true)) }
-    ensures left { cursor words.new ≡ without_first (cursor words.old) }
 {
     let word = words.word()?;
     let n = word.number(0, most(role))? as u8;
@@ -26,7 +25,7 @@ pub fn numbered(draft: &Draft, role: Role, words: &mut Words<'_>) -> Result<u8, 
 }
 
 // A name that has to come.
-pub(crate) fn keyword(words: &mut Words<'_>, name: &[u8]) -> Result<(), ReadFault>
+pub fn keyword(words: &mut Words<'_>, name: &[u8]) -> Result<(), ReadFault>
     ensures { paired (λ x. x) result (cursor words.new) ≡ keyword name.now (cursor words.old) }
 {
     let word = words.word()?;
@@ -38,7 +37,7 @@ pub(crate) fn keyword(words: &mut Words<'_>, name: &[u8]) -> Result<(), ReadFaul
 }
 
 // A number from `low` to `high`.
-pub(crate) fn ranged(words: &mut Words<'_>, low: u32, high: u32) -> Result<u32, ReadFault>
+pub fn ranged(words: &mut Words<'_>, low: u32, high: u32) -> Result<u32, ReadFault>
     ensures value { paired (λ x. x) result (cursor words.new) ≡ ranged low high (cursor words.old) }
     ensures range { IfOk result (λ n. (low ≤ n) × (n ≤ high)) }
 {
@@ -46,10 +45,8 @@ pub(crate) fn ranged(words: &mut Words<'_>, low: u32, high: u32) -> Result<u32, 
     word.number(low, high)
 }
 
-// A gain. One word is taken, fit or not.
 pub fn gain(words: &mut Words<'_>) -> Result<i16, ReadFault>
-    ensures value { paired (λ x. x) result (cursor words.new) ≡ gain_word (cursor words.old) }
-    ensures left { cursor words.new ≡ without_first (cursor words.old) }
+    ensures { paired (λ x. x) result (cursor words.new) ≡ gain_word (cursor words.old) }
 {
     let word = words.word()?;
     word.gain()

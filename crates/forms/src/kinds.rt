@@ -85,10 +85,11 @@ fn delay(words: &mut Words<'_>) -> Result<Kind, ReadFault>
     }
 }
 
-// The kind that unit `s` has to have, with its settings; from 6 on, a delay.
+// The kind that unit `s` has to have, with its settings.
 pub fn kind(words: &mut Words<'_>, s: u8) -> Result<Kind, ReadFault>
+    requires { s ≤ 7 }
     ensures value { paired effect result (cursor words.new) ≡ kind_form s (cursor words.old) }
-    ensures fits { s ≤ 7 → IfOk result (λ k. fits_unit s (effect k) ≡ true) }
+    ensures fits { IfOk result (λ k. fits_unit s (effect k) ≡ true) }
 {
     match s {
         0..=1 => fir(words),

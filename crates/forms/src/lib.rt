@@ -1,4 +1,6 @@
 // The forms of the lines of a session text, word by word.
+#![tactic(auto)]
+
 mod forms;
 mod kinds;
 mod roles;

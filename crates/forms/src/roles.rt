@@ -16,7 +16,7 @@ pub enum Role {
 }
 
 // The greatest number in a role.
-pub(crate) fn most(role: Role) -> u32
+pub fn most(role: Role) -> u32
     ensures value { result ≡ role_most role }
     ensures bound { result ≤ 15 }
 {
@@ -31,7 +31,7 @@ pub(crate) fn most(role: Role) -> u32
 }
 
 // Whether a number fits what the draft holds.
-pub(crate) fn fits(draft: &Draft, role: Role, n: u8) -> bool
+pub fn fits(draft: &Draft, role: Role, n: u8) -> bool
     ensures { result ≡ role_fits (contents-of draft.now) role n }
 {
     match role {

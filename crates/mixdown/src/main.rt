@@ -1,82 +1,57 @@
-// Mixes a session: its text comes on standard input, its tracks from track0.wav to track7.wav in the working folder, or
-// from the click reel where none of them is there. The mix goes to mix.wav, and its frames are listed.
-mod output;
-mod playing;
-mod stops;
-mod tracks;
+// Mixes the click reel's eight tracks at unity, writes the mix as mix.wav and lists its frames.
+#![tactic(auto)]
 
-use crate::playing::mix;
-use crate::stops::Stop;
-use crate::tracks::{TrackFiles, read_tracks};
 use anyhow::anyhow;
-use faults::MixFault;
-use frames::refusals::Fault;
+use frames::samples::Frame;
+use listing::hex::{push_frames, push_number};
 use reels::clicks::Clicks;
-use session::sessions::Session;
-use std::env;
-use std::io::Read;
-use text::reader::read;
-use wave::reel::WaveReel;
-use words::faults::ReadFault;
+use reels::tracks::Reel;
+use reels::unity::mix_all;
+use std::fs;
+use std::io::Write;
+use wave::writer::{head, write_frames};
 
-fn read_session(rt: &HostRuntime, session: &mut Session) -> Result<(), Stop> {
+const RATE: u32 = 48000;
+
+// The whole file: the head, then the frames' bytes.
+fn file_bytes(rt: &HostRuntime, frames: &[Frame], count: u32) -> anyhow::Result<Vec<u8>> {
+    let mut body = vec![in rt.alloc(); 0u8; 4 * frames.len()]?;
+    if write_frames(frames, &mut body).is_err() {
+        return Err(anyhow!("the frames do not fit their buffer"));
+    }
+    let mut bytes = Vec::new(rt.alloc());
+    bytes.extend_from_slice(&head(count, RATE))?;
+    bytes.extend_from_slice(&body)?;
+    Ok(bytes)
+}
+
+fn list(rt: &HostRuntime, frames: &[Frame], count: u32) -> anyhow::Result<()> {
     let mut text = Vec::new(rt.alloc());
-    match rt.stdin().read_to_end(&mut text) {
-        Ok(_) => {}
-        Err(e) => return Err(Stop::Failed(e.into())),
-    }
-    match read(&text, session, rt.alloc()) {
+    push_number(&mut text, count)?;
+    text.push(10)?;
+    push_frames(&mut text, frames)?;
+    rt.stdout().write_all(&text)?;
+    Ok(())
+}
+
+fn save(rt: &HostRuntime, bytes: &[u8]) -> anyhow::Result<()> {
+    match fs::write(rt, "mix.wav", bytes) {
         Ok(()) => Ok(()),
-        Err(ReadFault::NoMemory) => Err(Stop::Failed("no memory for the session".into())),
-        Err(fault) => Err(Stop::Refused(fault.into())),
+        Err(e) => Err(anyhow!(format!(in rt.alloc(); "mix.wav cannot be written: {e}")?)),
     }
 }
 
-fn open<'a>(session: &Session, files: &'a TrackFiles) -> Result<WaveReel<'a>, MixFault> {
-    Ok(WaveReel::open(session, files.bytes(), files.parts())?)
-}
-
-fn run(rt: &HostRuntime, progress: bool) -> Result<(), Stop> {
-    let mut session = Session::empty(rt.alloc());
-    read_session(rt, &mut session)?;
-    match read_tracks(rt)? {
-        Some(files) => {
-            let reel = open(&session, &files)?;
-            mix(rt, &session, &reel, progress)
-        }
-        None => mix(rt, &session, &Clicks, progress),
-    }
-}
-
-// Whether progress is asked for.
-fn asked(rt: &HostRuntime) -> anyhow::Result<bool> {
-    let mut args = env::args(rt)?;
-    let _ = args.next();
-    match args.next() {
-        Some(arg) => {
-            if arg.as_str() == "--progress" {
-                Ok(true)
-            } else {
-                Err(anyhow!("the only argument is --progress"))
-            }
-        }
-        None => Ok(false),
-    }
-}
-
-fn told(rt: &HostRuntime) -> anyhow::Result<()> {
-    let progress = asked(rt)?;
-    match run(rt, progress) {
-        Ok(()) => Ok(()),
-        Err(Stop::Failed(e)) => Err(e),
-        Err(Stop::Refused(fault)) => {
-            let refusal = fault.refusal();
-            println!(rt; "{refusal}")?;
-            Ok(())
-        }
-    }
+fn run(rt: &HostRuntime) -> anyhow::Result<()> {
+    let reel = Clicks;
+    let count = reel.length(7);
+    let frames = mix_all(rt.alloc(), &reel, count)?;
+    let bytes = file_bytes(rt, &frames, count)?;
+    save(rt, &bytes)?;
+    list(rt, &frames, count)?;
+    eprintln!(rt; "wrote {count} frames at {RATE} Hz to mix.wav")?;
+    Ok(())
 }
 
 fn main(rt: HostRuntime) -> anyhow::Result<()> {
-    told(&rt)
+    run(&rt)
 }

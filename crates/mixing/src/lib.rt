@@ -1,2 +1,4 @@
 // How long a mix is.
+#![tactic(auto)]
+
 pub mod lengths;

@@ -1,4 +1,6 @@
 // The patch of a session: the order of its nodes, how late each is, what feeds it, and how long each line is held.
+#![tactic(auto)]
+
 pub mod faults;
 mod flows;
 pub mod inputs;
@@ -6,3 +8,4 @@ mod making;
 pub mod orders;
 pub mod patches;
 mod sweeps;
+pub mod theorems;

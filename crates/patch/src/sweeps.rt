@@ -8,7 +8,7 @@ use crate::inputs::Inputs;
 use session::nodes::Line;
 
 // A kind of value that goes along the lines: a start value, a join, and what each node makes of a value.
-pub(crate) trait Flow {
+pub trait Flow {
     type Value: Copy;
 
     ghost kind: { Self → Kind Self.Value };

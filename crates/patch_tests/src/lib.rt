@@ -1,4 +1,6 @@
 // Patches, run on worked examples.
+#![tactic(auto)]
+
 #[cfg(test)]
 mod tests {
     use frames::refusals::Fault;

@@ -1,3 +1,5 @@
+pub mod Arranged
+pub mod Desks
 pub mod Promise
 pub mod Tape
 pub mod Theorems

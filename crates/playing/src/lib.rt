@@ -1,7 +1,10 @@
 // What playing does, frame by frame, and that it gives the signals under the patch.
+#![tactic(auto)]
+
 ghost use Rattle.std.specs.Prelude.{◌≡◌, true};
 ghost use Rattle.playing.specs.Theorems.{PlaysThePatch};
 
+mod desks;
 mod proved;
 
 // Frame by frame, from rest and a silent tape, node 0's signal under the patch comes out.

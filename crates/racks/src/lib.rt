@@ -1,4 +1,6 @@
 // Racks: units by number.
+#![tactic(auto)]
+
 pub mod interface;
 pub mod latest;
 pub mod pair;

@@ -1,17 +1,16 @@
-// Steps each unit of a session's rack over four frames, and prints what it answers; then the units about the sixteenth
-// of two such racks and one unit more.
+// Steps each unit of a session's rack over four frames, and prints what it answers; then the units past the sixteenth of
+// three such racks as one.
+#![tactic(auto)]
+
 use anyhow::anyhow;
 use frames::samples::Frame;
 use racks::interface::Rack;
 use racks::latest::latest_unit;
 use racks::pair::Pair;
 use racks::session_rack::session_rack;
-use racks::single::Single;
 use session::sessions::Session;
 use text::reader::read;
-use units::delay::Delay;
 use units::interface::Unit;
-use units::settings::DelaySettings;
 
 const TEXT: &[u8] =
     b"session 1 48000\nunit 0 fir 3 4096 8192 4096\nunit 1 fir 1 16384\nunit 2 limit 1 10000\nunit 3 limit 0 1\nunit 4 pan 0\nunit 5 pan 128\nunit 6 delay 2\nunit 7 delay 1\nlayer 0 trim 8192\nlayer 1 trim -16384\nlayer 2 bypass\nlayer 5 trim 30000\nlayer 6 trim 32767\nlayer 6 bypass\nnode 0 bus\nend\n";
@@ -41,18 +40,19 @@ fn answers<R: Rack>(rt: &HostRuntime, rack: &mut R, s: u8) -> anyhow::Result<()>
     Ok(())
 }
 
-fn units<R: Rack + Drop>(rt: &HostRuntime, mut rack: R, from: u8, to: u8) -> anyhow::Result<()> {
+fn units<R: Rack>(rt: &HostRuntime, rack: &mut R, from: u8, to: u8) -> anyhow::Result<()> {
     let count = rack.count();
-    let latest = latest_unit(&rack);
+    let latest = latest_unit(rack);
     println!(rt; "{count} units, the latest {latest} late")?;
     for s in from..to {
-        answers(rt, &mut rack, s)?;
+        answers(rt, rack, s)?;
     }
     Ok(())
 }
 
 fn one(rt: &HostRuntime, session: &Session) -> anyhow::Result<()> {
-    units(rt, session_rack(session), 0, 9)
+    let mut rack = session_rack(session);
+    units(rt, &mut rack, 0, 9)
 }
 
 fn three(rt: &HostRuntime, session: &Session) -> anyhow::Result<()> {
@@ -60,14 +60,11 @@ fn three(rt: &HostRuntime, session: &Session) -> anyhow::Result<()> {
         first: session_rack(session),
         second: session_rack(session),
     };
-    let echo = Single {
-        unit: Delay::new(DelaySettings { frames: 1 }),
-    };
-    let all = Pair {
+    let mut all = Pair {
         first,
-        second: echo,
+        second: session_rack(session),
     };
-    units(rt, all, 14, 18)
+    units(rt, &mut all, 14, 18)
 }
 
 fn run(rt: &HostRuntime) -> anyhow::Result<()> {

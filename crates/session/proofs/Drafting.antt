@@ -1,13 +1,13 @@
 -- What is added to a draft keeps the rules.
-use Rattle.std.proofs.Common.{◌≡◌, ℕ, zero, suc, ◌+◌, ◌<◌, ◌≤◌, Bool, true, false, cond, not, List, [], ◌∷◌, ◌++◌, length, get_or, set, replicate, Some, None, Option, sym, refl, ap, ◌∙◌, subst, ap₂, ⊎_elim, arith}
+use Rattle.std.proofs.Common.{◌≡◌, ℕ, zero, suc, ◌+◌, ◌<◌, ◌≤◌, Bool, true, false, cond, not, List, [], ◌∷◌, ◌++◌, length, get_or, set, replicate, Some, None, Option, sym, refl, ap, ◌∙◌, subst, ⊎_elim, arith}
 use Rattle.session.specs.Contents.{bus_at, contents, effect, fits_unit, free, is_set, names_unit, used}
-use Rattle.session.specs.Held.{Held, Full, setting, suits, unset}
+use Rattle.session.specs.Held.{Held, Full, nothing, setting, suits, unset}
 use Rattle.session.specs.Lawful.{LawfulDraft}
 use Rattle.session.specs.Tables.{with_kind}
 use Rattle.session.specs.Plan.{KeepsRules, Plan, is_bus, line, node}
 use Rattle.session.specs.declared.nodes.Line.{Line}
 use Rattle.session.specs.declared.nodes.Node.{Node}
-use Rattle.session.specs.declared.nodes.Source.TheVariants.{Bus}
+use Rattle.session.specs.declared.nodes.Source.TheVariants.{Bus, Track}
 use Rattle.session.specs.declared.settings.Kind.{Kind}
 use Rattle.session.specs.declared.settings.Kind.TheVariants.{Fir, Limit, Pan, Delay}
 use Rattle.session.specs.declared.settings.Setting.{Setting}
@@ -136,25 +136,24 @@ module _ (h : Held) (r : LawfulDraft h) where
   pub draft-full : 0 < h.rate → 1 ≤ length h.plan.nodes → length h.settings ≡ 8 → Full h
   draft-full a b e = record { least_rate = r.least_rate a; most_rate = r.most_rate; some_node = b; keeps = r.keeps; eight = e; suited = r.suited }
 
--- a draft that holds no node and no line, and has no unit set
-module _ (e : Setting) (none : e.kind ≡ None) where
-  none-at : (s : ℕ) → (setting (replicate 8 e) s).kind ≡ None
-  none-at s = ⊎_elim (λ l. ap (λ x. x.kind) (get_or-replicate 8 s e unset l) ∙ none) (λ g. ap (λ x. x.kind) (get_or_past (replicate 8 e) s unset g)) (cases_lt s 8)
+unset_at : (s : ℕ) → get_or (replicate 8 unset) s unset ≡ unset
+unset_at s = ⊎_elim (λ l. get_or-replicate 8 s unset unset l) (λ g. get_or_past (replicate 8 unset) s unset g) (cases_lt s 8)
 
-  none-not : (s : ℕ) (k : Kind) → (setting (replicate 8 e) s).kind ≡ Some k → ⊥
-  none-not s k h = let q : ◌≡◌ {A = Option Kind} None (Some k) = sym (none-at s) ∙ h in let z : ◌≡◌ {A = ℕ} 0 1 = cc in omega arith
+unset_not : (s : ℕ) (k : Kind) → (setting (replicate 8 unset) s).kind ≡ Some k → ⊥
+unset_not s k h = let e : ◌≡◌ {A = Option Kind} None (Some k) = ap (λ x. x.kind) (sym (unset_at s)) ∙ h in let z : ◌≡◌ {A = ℕ} 0 1 = cc in omega arith
 
-  pub draft-fresh : (ns : List Node) (ls : List Line) → ns ≡ [] → ls ≡ [] → LawfulDraft (record { rate = 0; plan = record { nodes = ns; lines = ls }; settings = replicate 8 e })
-  draft-fresh ns ls p q = record {
-    least_rate = λ h. omega arith;
-    most_rate = omega arith;
-    keeps = subst KeepsRules (sym (ap₂ (λ n l. record { nodes = n; lines = l }) p q)) (record {
-      few_nodes = omega arith;
-      few_lines = omega arith;
-      starts = λ i h. omega arith;
-      ends = λ i h. omega arith;
-      ends_at_bus = λ i h. absurd (omega arith);
-      one_node = λ v w s h. absurd (omega arith);
-    });
-    suited = λ s k h. absurd (none-not s k h);
-  }
+-- a draft that holds nothing
+pub draft_nothing : LawfulDraft nothing
+draft_nothing = record {
+  least_rate = λ h. omega arith;
+  most_rate = omega arith;
+  keeps = record {
+    few_nodes = omega arith;
+    few_lines = omega arith;
+    starts = λ i h. omega arith;
+    ends = λ i h. omega arith;
+    ends_at_bus = λ i h. absurd (omega arith);
+    one_node = λ v w s h. absurd (omega arith);
+  };
+  suited = λ s k h. absurd (unset_not s k h);
+}

@@ -1,5 +1,7 @@
 // The theory of delay compensation: signals, the mix, patches, and what holds of every aligned patch. Each function's
 // contract is a theorem.
+#![tactic(auto)]
+
 ghost use Rattle.signals.specs.Examples.{Comb, HeldLonger};
 ghost use Rattle.signals.specs.Theorems.{OneAnswer, MovesInTime, OneIdeal, OneUnder, AlignedIsIdeal, OneLateness, OursIsAligned, OneArrival, OursIsLeast, DelaysStayShort};
 ghost use Rattle.std.specs.Prelude.{◌≡◌, true};

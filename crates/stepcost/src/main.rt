@@ -1,5 +1,7 @@
 // Steps one unit of each kind over some frames and prints a checksum of its answers. With a kind's name and a number it
 // steps that kind so often, so that the cost of a step can be counted.
+#![tactic(auto)]
+
 use frames::samples::Frame;
 use std::env;
 use units::bypass::Bypass;

@@ -1,5 +1,5 @@
 -- A text is read just where it is the spelling of a well-formed script.
-use Rattle.std.proofs.Common.{◌≡◌, ℕ, zero, suc, ◌+◌, ◌<◌, ◌≤◌, Bool, true, false, cond, ◌&&◌, leb, List, [], ◌∷◌, ◌++◌, map, length, Some, None, Ok, Err, codes, MatchBool, Option, Result, sym, refl, ap, ◌∙◌, subst, ap₂, ⊎_elim, arith}
+use Rattle.std.proofs.Common.{◌≡◌, ℕ, zero, suc, ◌+◌, ◌<◌, ◌≤◌, Bool, true, false, cond, ◌&&◌, leb, List, [], ◌∷◌, ◌++◌, map, length, Some, None, Ok, Err, codes, MatchBool, Option, Result, sym, refl, ap, ◌∙◌, subst, ap₂, arith}
 use Rattle.session.specs.Contents.{Contents, no_contents, with_line, with_node, with_rate}
 use Rattle.session.specs.declared.nodes.Line as links
 use Rattle.session.specs.declared.nodes.Node as nodes
@@ -22,7 +22,6 @@ use Rattle.text.specs.declared.stages.First as firsts
 use Rattle.text.specs.declared.stages.First.TheVariants.{Session, Unit, Layer, Node, Line, End, Other}
 use Rattle.text.specs.declared.stages.Stage.{Stage}
 use Rattle.text.specs.declared.stages.Stage.TheVariants.{Head, Units, Nodes, Lines}
-use Rattle.turns.specs.Turns.{wants_memory}
 use Rattle.words.specs.Bytes.{all_letters}
 use Rattle.words.specs.Pieces.{is_nil, nothing_follows, split}
 use Rattle.words.specs.Words.{Spelling, name, spelling}
@@ -87,8 +86,8 @@ module _ (c : Contents) (row : ℕ) (ls : List (List ℕ)) (h : Contents) where
 
   module _ (ps : List (List ℕ)) (w : Spelling) (vs : List Spelling) (e : map spelling ps ≡ w ∷ vs) where
     -- the line is these words
-    is_line : (v : Spelling) (qs : List (List ℕ)) → w ≡ v → v ∷ vs ≡ map spelling qs → line_bytes ps ≡ line_bytes qs
-    is_line v qs a b = ap line_bytes (same_words ps qs (e ∙ ap (λ z. z ∷ vs) a ∙ b))
+    is-line : (v : Spelling) (qs : List (List ℕ)) → w ≡ v → v ∷ vs ≡ map spelling qs → line_bytes ps ≡ line_bytes qs
+    is-line v qs a b = ap line_bytes (same_words ps qs (e ∙ ap (λ z. z ∷ vs) a ∙ b))
 
     by-setup : (d : Contents) (next : Stage) → Units ≡ next → (x : Setup) → SetupFits c x → d ≡ after_setup c x → line_bytes ps ≡ line_bytes (setup_words x) → Rest next d ls h → RestUnits c (line_bytes ps ∷ ls) h
     by-setup d next n x f de l r =
@@ -118,12 +117,12 @@ module _ (c : Contents) (row : ℕ) (ls : List (List ℕ)) (h : Contents) where
 
     end_line : vs ≡ [] → FirstIs End w → line_bytes ps ≡ line_bytes end_words
     unfolding spelling all_letters
-    end_line n fw = is_line (name (codes "end")) end_words fw (ap (λ z. name (codes "end") ∷ z) n)
+    end_line n fw = is-line (name (codes "end")) end_words fw (ap (λ z. name (codes "end") ∷ z) n)
 
     step : (st : Stage) (f : firsts.First) (next : Stage) (d : Contents) → FirstIs f w → next_stage st f ≡ Some next → TurnRest f c d vs → After f next d → Rest st c (line_bytes ps ∷ ls) h
     step Head Session next d fw n t a =
         let s = session-sound c d vs t in
-        (s.0, s.1, s.2, ls, ap (λ z. z ∷ ls) (is_line _ (session_words s.0) fw s.4), subst (λ y. RestUnits y ls h) s.3 (subst (λ s. Rest s d ls h) (sym (some_is n)) a))
+        (s.0, s.1, s.2, ls, ap (λ z. z ∷ ls) (is-line _ (session_words s.0) fw s.4), subst (λ y. RestUnits y ls h) s.3 (subst (λ s. Rest s d ls h) (sym (some_is n)) a))
     step Head Unit next d fw n t a = absurd (none_is n)
     step Head Layer next d fw n t a = absurd (none_is n)
     step Head Node next d fw n t a = absurd (none_is n)
@@ -131,24 +130,24 @@ module _ (c : Contents) (row : ℕ) (ls : List (List ℕ)) (h : Contents) where
     step Head End next d fw n t a = absurd (none_is n)
     step Head Other next d fw n t a = absurd (none_is n)
     step Units Session next d fw n t a = absurd (none_is n)
-    step Units Unit next d fw n t a = let s = unit-sound c d vs t in by-setup d next (some_is n) s.0 s.1 s.2 (is_line _ (setup_words s.0) fw s.3) a
-    step Units Layer next d fw n t a = let s = layer-sound c d vs t in by-setup d next (some_is n) s.0 s.1 s.2 (is_line _ (setup_words s.0) fw s.3) a
-    step Units Node next d fw n t a = let s = node-sound c d vs t in let q = by_node d next (some_is n) s.0 s.1 s.2 (is_line _ (node_words (length c.nodes) s.0) fw s.3) a in ([], q.0, q.1, q.2, tt, q.3, q.4, q.5, q.6)
+    step Units Unit next d fw n t a = let s = unit-sound c d vs t in by-setup d next (some_is n) s.0 s.1 s.2 (is-line _ (setup_words s.0) fw s.3) a
+    step Units Layer next d fw n t a = let s = layer-sound c d vs t in by-setup d next (some_is n) s.0 s.1 s.2 (is-line _ (setup_words s.0) fw s.3) a
+    step Units Node next d fw n t a = let s = node-sound c d vs t in let q = by_node d next (some_is n) s.0 s.1 s.2 (is-line _ (node_words (length c.nodes) s.0) fw s.3) a in ([], q.0, q.1, q.2, tt, q.3, q.4, q.5, q.6)
     step Units Line next d fw n t a = absurd (none_is n)
     step Units End next d fw n t a = absurd (none_is n)
     step Units Other next d fw n t a = absurd (none_is n)
     step Nodes Session next d fw n t a = absurd (none_is n)
     step Nodes Unit next d fw n t a = absurd (none_is n)
     step Nodes Layer next d fw n t a = absurd (none_is n)
-    step Nodes Node next d fw n t a = let s = node-sound c d vs t in let q = by_node d next (some_is n) s.0 s.1 s.2 (is_line _ (node_words (length c.nodes) s.0) fw s.3) a in (q.0, q.1, q.3, q.4, q.5, q.6)
-    step Nodes Line next d fw n t a = let s = link-sound c d vs t in no-nodes (by-link d next (some_is n) s.0 s.1 s.2 (is_line _ (link_words s.0) fw s.3) a)
+    step Nodes Node next d fw n t a = let s = node-sound c d vs t in let q = by_node d next (some_is n) s.0 s.1 s.2 (is-line _ (node_words (length c.nodes) s.0) fw s.3) a in (q.0, q.1, q.3, q.4, q.5, q.6)
+    step Nodes Line next d fw n t a = let s = link-sound c d vs t in no-nodes (by-link d next (some_is n) s.0 s.1 s.2 (is-line _ (link_words s.0) fw s.3) a)
     step Nodes End next d fw n t a = no-nodes (by_end d t.0 (end_line t.1 fw) a)
     step Nodes Other next d fw n t a = absurd (none_is n)
     step Lines Session next d fw n t a = absurd (none_is n)
     step Lines Unit next d fw n t a = absurd (none_is n)
     step Lines Layer next d fw n t a = absurd (none_is n)
     step Lines Node next d fw n t a = absurd (none_is n)
-    step Lines Line next d fw n t a = let s = link-sound c d vs t in (by-link d next (some_is n) s.0 s.1 s.2 (is_line _ (link_words s.0) fw s.3) a)
+    step Lines Line next d fw n t a = let s = link-sound c d vs t in (by-link d next (some_is n) s.0 s.1 s.2 (is-line _ (link_words s.0) fw s.3) a)
     step Lines End next d fw n t a = (by_end d t.0 (end_line t.1 fw) a)
     step Lines Other next d fw n t a = absurd (none_is n)
 
@@ -281,8 +280,6 @@ scripts_sound text h e = go (leb (length text) 16384) refl e
         )
 
 -- what is accepted, by the definition of reading
-pub accepts : {T : Type 0} (text : List ℕ) (held : Contents) (r : Result T ReadFault) (May : Type 0) → Gives (λ _. held) r (reading text) May → Accepts r text held
-accepts text held (Ok t) May g = let s = scripts_sound text held g in (s.0, (s.1, s.3, s.2), s.4)
-accepts text held (Err e) May g = λ m s f. ⊎_elim
-    (λ h. not_ok (sym h ∙ ap reading f.2 ∙ scripts_complete s f.0 (subst (λ z. length z ≤ 16384) f.2 f.1)))
-    (λ p. false≢true (sym m ∙ ap wants_memory p.0)) g
+pub accepts : {T : Type 0} (text : List ℕ) (held : Contents) (r : Result T ReadFault) → Gives (λ _. held) r (reading text) → Accepts r text held
+accepts text held (Ok t) g = let s = scripts_sound text held g in (s.0, (s.1, s.3, s.2), s.4)
+accepts text held (Err e) g = λ m s f. not_ok (sym (g m) ∙ ap reading f.2 ∙ scripts_complete s f.0 (subst (λ z. length z ≤ 16384) f.2 f.1))

@@ -1,4 +1,6 @@
 // Session texts: the reader that builds a session from a text.
+#![tactic(auto)]
+
 mod checks;
 pub mod reader;
 mod stages;

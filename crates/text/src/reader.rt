@@ -4,9 +4,9 @@ ghost use Rattle.session.specs.Drafts.{draft as contents-of};
 ghost use Rattle.session.specs.Held.{nothing};
 ghost use Rattle.session.specs.Sessions.{held};
 ghost use Rattle.text.specs.Accepted.{Accepts};
-ghost use Rattle.text.specs.Reading.{Gives, closed, line_holds, line_read, lines_read, may_want, reading, some_held, value_of};
+ghost use Rattle.text.specs.Reading.{Gives, closed, line_read, lines_read, reading};
 ghost use Rattle.turns.specs.Turns.{Does};
-ghost use Rattle.text.specs.Turning.{SomeFull, staged, whole_turn};
+ghost use Rattle.text.specs.Turning.{staged, whole_turn};
 ghost use Rattle.text.specs.Stages.{is_end};
 ghost use Rattle.words.specs.Pieces.{pieces, split};
 ghost use Rattle.words.specs.Words.{cursor};
@@ -24,7 +24,7 @@ use words::words::Words;
 
 // The reader: where it is, and what is held so far.
 #[derive(Drop)]
-struct Reader {
+pub struct Reader {
     stage: Stage,
     draft: Draft,
 }
@@ -51,7 +51,7 @@ fn close(lines: &Pieces<'_>, row: usize) -> Result<(), ReadFault>
 }
 
 impl Reader {
-    fn new(heap: Global) -> Reader
+    pub fn new(heap: Global) -> Reader
         ensures stage { result.stage ≡ Head }
         ensures draft { contents-of result.draft ≡ no_contents }
     {
@@ -63,7 +63,7 @@ impl Reader {
 
     // A line by its words; true at the end.
     fn whole_turn(&mut self, words: &mut Words<'_>) -> Result<bool, ReadFault>
-        ensures does { Does (λ ended. record { stage = self.new.stage; held = contents-of self.new.draft; ended = ended }) result (cursor words.new) (whole_turn self.old.stage (contents-of self.old.draft) (cursor words.old)) ((line_holds (value_of (whole_turn self.old.stage (contents-of self.old.draft) (cursor words.old))) ≡ true) × SomeFull self.old.draft) }
+        ensures does { Does (λ ended. record { stage = self.new.stage; held = contents-of self.new.draft; ended = ended }) result (cursor words.new) (whole_turn self.old.stage (contents-of self.old.draft) (cursor words.old)) }
         ensures staged { staged self.old.stage (contents-of self.old.draft) ≡ true → IfOk result (λ ended. (staged self.new.stage (contents-of self.new.draft) ≡ true) × (ended ≡ true → ready (contents-of self.new.draft) ≡ true)) }
     {
         let word = words.word()?;
@@ -79,7 +79,8 @@ impl Reader {
 
     // A line of the text; true at the end. `last` says that no 0A ends it.
     fn read_line(&mut self, line: &[u8], row: usize, last: bool) -> Result<bool, ReadFault>
-        ensures does { Gives (λ ended. record { stage = self.new.stage; held = contents-of self.new.draft; ended = ended }) result (line_read row self.old.stage (contents-of self.old.draft) line.now last) ((line_holds (line_read row self.old.stage (contents-of self.old.draft) line.now last) ≡ true) × SomeFull self.old.draft) }
+        requires { length line.now ≤ 16384 }
+        ensures does { Gives (λ ended. record { stage = self.new.stage; held = contents-of self.new.draft; ended = ended }) result (line_read row self.old.stage (contents-of self.old.draft) line.now last) }
         ensures staged { staged self.old.stage (contents-of self.old.draft) ≡ true → IfOk result (λ ended. (staged self.new.stage (contents-of self.new.draft) ≡ true) × (ended ≡ true → ready (contents-of self.new.draft) ≡ true)) }
     {
         check_bytes(line, row, last)?;
@@ -91,7 +92,7 @@ impl Reader {
     // All lines of a text.
     fn read_lines(&mut self, text: &[u8]) -> Result<(), ReadFault>
         requires { length text.now ≤ 16384 }
-        ensures does { Gives (λ _. contents-of self.new.draft) result (lines_read 1 self.old.stage (contents-of self.old.draft) (split 10 text.now)) (some_held 1 self.old.stage (contents-of self.old.draft) (split 10 text.now) ≡ true) }
+        ensures does { Gives (λ _. contents-of self.new.draft) result (lines_read 1 self.old.stage (contents-of self.old.draft) (split 10 text.now)) }
         ensures ready { staged self.old.stage (contents-of self.old.draft) ≡ true → OnOk result (ready (contents-of self.new.draft) ≡ true) }
     {
         let mut lines = Pieces::new(text, b'\n');
@@ -113,7 +114,7 @@ impl Reader {
 // Reads a text of at most 16,384 bytes.
 fn read_short(text: &[u8], session: &mut Session, heap: Global) -> Result<(), ReadFault>
     requires { length text.now ≤ 16384 }
-    ensures does { Gives (λ _. contents (held session.new)) result (lines_read 1 Head no_contents (split 10 text.now)) (some_held 1 Head no_contents (split 10 text.now) ≡ true) }
+    ensures does { Gives (λ _. contents (held session.new)) result (lines_read 1 Head no_contents (split 10 text.now)) }
     ensures refused { OnErr result (held session.new ≡ held session.old) }
 {
     let mut reader = Reader::new(heap);
@@ -124,7 +125,7 @@ fn read_short(text: &[u8], session: &mut Session, heap: Global) -> Result<(), Re
 
 // Reads a text by the definition of reading.
 fn read_text(text: &[u8], session: &mut Session, heap: Global) -> Result<(), ReadFault>
-    ensures does { Gives (λ _. contents (held session.new)) result (reading text.now) (may_want text.now ≡ true) }
+    ensures does { Gives (λ _. contents (held session.new)) result (reading text.now) }
     ensures refused { OnErr result (held session.new ≡ nothing) }
 {
     *session = Session::empty(heap);
@@ -135,10 +136,9 @@ fn read_text(text: &[u8], session: &mut Session, heap: Global) -> Result<(), Rea
 }
 
 // Reads a session text. The session then holds what the text says; where the text is refused or memory lacks, it is the
-// empty session. The texts that are accepted are the spellings of well-formed scripts. Memory is wanted only where the
-// lines are all right up to the first node's.
+// empty session. The texts that are accepted are the spellings of well-formed scripts.
 pub fn read(text: &[u8], session: &mut Session, heap: Global) -> Result<(), ReadFault>
-    ensures does { Gives (λ _. contents (held session.new)) result (reading text.now) (may_want text.now ≡ true) }
+    ensures does { Gives (λ _. contents (held session.new)) result (reading text.now) }
     ensures refused { OnErr result (held session.new ≡ nothing) }
     ensures accepts { Accepts result text.now (contents (held session.new)) }
 {

@@ -26,7 +26,7 @@ pub enum First {
     Other,
 }
 
-pub(crate) fn first_of(word: &Token<'_>) -> First
+pub fn first_of(word: &Token<'_>) -> First
     ensures { result ≡ first_of (spelt word.now.word) }
 {
     if word.is(b"session") {
@@ -48,7 +48,7 @@ pub(crate) fn first_of(word: &Token<'_>) -> First
 
 impl Stage {
     // Goes on by a first word; false, and it stays, where that may not come now.
-    pub(crate) fn advance(&mut self, first: First) -> bool
+    pub fn advance(&mut self, first: First) -> bool
         ensures due { result ≡ is_some (next_stage self.old first) }
         ensures after { self.new ≡ unwrap_or (next_stage self.old first) self.old }
     {

@@ -1,7 +1,7 @@
-ghost use Rattle.std.specs.Prelude.{◌≡◌, true, is_ok, OnOk};
+ghost use Rattle.std.specs.Prelude.{◌≡◌, OnOk};
 ghost use Rattle.turns.specs.Turns.{Does};
 ghost use Rattle.session.specs.Drafts.{draft as contents-of};
-ghost use Rattle.text.specs.Turning.{Grows, RoomUsed, turn};
+ghost use Rattle.text.specs.Turning.{Grows, turn};
 ghost use Rattle.words.specs.Words.{cursor, item};
 
 use crate::stages::First;
@@ -11,13 +11,13 @@ use words::faults::ReadFault;
 use words::words::{Token, Words};
 
 // The line that begins with this first word.
-pub(crate) fn turn(
+pub fn turn(
     draft: &mut Draft,
     first: First,
     word: &Token<'_>,
     words: &mut Words<'_>,
 ) -> Result<(), ReadFault>
-    ensures does { Does (λ _. contents-of draft.new) result (cursor words.new) (turn first (contents-of draft.old) (item word.now) (cursor words.old)) ((is_ok (turn first (contents-of draft.old) (item word.now) (cursor words.old)) ≡ true) × RoomUsed first draft.old) }
+    ensures does { Does (λ _. contents-of draft.new) result (cursor words.new) (turn first (contents-of draft.old) (item word.now) (cursor words.old)) }
     ensures grows { OnOk result (Grows first (contents-of draft.old) (contents-of draft.new)) }
 {
     match first {

@@ -1,4 +1,5 @@
 // Tests of the reader of session texts.
+#![tactic(auto)]
 
 #[cfg(test)]
 mod tests {

@@ -1,23 +1,20 @@
-ghost use Rattle.std.specs.Prelude.{◌≡◌, ◌+◌, ◌<◌, ◌≤◌, true, length, is_ok, IfErr, OnErr, OnOk};
-ghost use Rattle.session.specs.Contents.{is_set, node_fits, with_node};
-ghost use Rattle.session.specs.Drafts.{LinesFull, NodesFull, draft as contents-of};
+ghost use Rattle.std.specs.Prelude.{◌≡◌, ◌+◌, ◌<◌, ◌≤◌, true, length, OnOk};
+ghost use Rattle.session.specs.Contents.{is_set};
+ghost use Rattle.session.specs.Drafts.{draft as contents-of};
 ghost use Rattle.forms.specs.Forms.{bypass_form, given_layer, layer_form, trim_form};
 ghost use Rattle.turns.specs.Turns.{Does, line_turn, node_turn, session_turn, unit_turn};
-ghost use Rattle.words.specs.Parsing.{paired};
 ghost use Rattle.words.specs.Words.{cursor, item};
 
 use forms::{Role, gain, kind, line, node, numbered, session};
-use session::nodes::Node;
 use session::sessions::drafts::{Draft, DraftFault};
 use units::settings::TrimSettings;
 use words::faults::ReadFault;
 use words::words::{Token, Words};
 
 pub fn session_turn(draft: &mut Draft, words: &mut Words<'_>) -> Result<(), ReadFault>
-    ensures does { paired (λ _. contents-of draft.new) result (cursor words.new) ≡ session_turn (contents-of draft.old) (cursor words.old) }
+    ensures does { Does (λ _. contents-of draft.new) result (cursor words.new) (session_turn (contents-of draft.old) (cursor words.old)) }
     ensures rate { OnOk result (0 < (contents-of draft.new).rate) }
     ensures nodes { OnOk result ((contents-of draft.new).nodes ≡ (contents-of draft.old).nodes) }
-    ensures stays { OnErr result (contents-of draft.new ≡ contents-of draft.old) }
 {
     let rate = session(words)?;
     draft.set_rate(rate);
@@ -25,10 +22,9 @@ pub fn session_turn(draft: &mut Draft, words: &mut Words<'_>) -> Result<(), Read
 }
 
 pub fn unit_turn(draft: &mut Draft, words: &mut Words<'_>) -> Result<(), ReadFault>
-    ensures does { paired (λ _. contents-of draft.new) result (cursor words.new) ≡ unit_turn (contents-of draft.old) (cursor words.old) }
+    ensures does { Does (λ _. contents-of draft.new) result (cursor words.new) (unit_turn (contents-of draft.old) (cursor words.old)) }
     ensures rate { OnOk result ((contents-of draft.new).rate ≡ (contents-of draft.old).rate) }
     ensures nodes { OnOk result ((contents-of draft.new).nodes ≡ (contents-of draft.old).nodes) }
-    ensures stays { OnErr result (contents-of draft.new ≡ contents-of draft.old) }
 {
     let s = numbered(draft, Role::NewUnit, words)?;
     let kind = kind(words, s)?;
@@ -44,10 +40,9 @@ fn trim_layer(
     words: &mut Words<'_>,
 ) -> Result<(), ReadFault>
     requires { is_set (contents-of draft.old) s ≡ true }
-    ensures does { paired (λ _. contents-of draft.new) result (cursor words.new) ≡ trim_form (contents-of draft.old) s (item word.now) (cursor words.old) }
+    ensures does { Does (λ _. contents-of draft.new) result (cursor words.new) (trim_form (contents-of draft.old) s (item word.now) (cursor words.old)) }
     ensures rate { OnOk result ((contents-of draft.new).rate ≡ (contents-of draft.old).rate) }
     ensures nodes { OnOk result ((contents-of draft.new).nodes ≡ (contents-of draft.old).nodes) }
-    ensures stays { OnErr result (contents-of draft.new ≡ contents-of draft.old) }
 {
     if draft.has_trim(s) {
         return Err(ReadFault::Fit(word.place));
@@ -65,10 +60,9 @@ fn bypass_layer(
     words: &mut Words<'_>,
 ) -> Result<(), ReadFault>
     requires { is_set (contents-of draft.old) s ≡ true }
-    ensures does { paired (λ _. contents-of draft.new) result (cursor words.new) ≡ bypass_form (contents-of draft.old) s (item word.now) (cursor words.old) }
+    ensures does { Does (λ _. contents-of draft.new) result (cursor words.new) (bypass_form (contents-of draft.old) s (item word.now) (cursor words.old)) }
     ensures rate { OnOk result ((contents-of draft.new).rate ≡ (contents-of draft.old).rate) }
     ensures nodes { OnOk result ((contents-of draft.new).nodes ≡ (contents-of draft.old).nodes) }
-    ensures stays { OnErr result (contents-of draft.new ≡ contents-of draft.old) }
 {
     if draft.has_bypass(s) {
         return Err(ReadFault::Fit(word.place));
@@ -85,10 +79,9 @@ fn given_layer(
     words: &mut Words<'_>,
 ) -> Result<(), ReadFault>
     requires { is_set (contents-of draft.old) s ≡ true }
-    ensures does { paired (λ _. contents-of draft.new) result (cursor words.new) ≡ given_layer (contents-of draft.old) s (item word.now) (cursor words.old) }
+    ensures does { Does (λ _. contents-of draft.new) result (cursor words.new) (given_layer (contents-of draft.old) s (item word.now) (cursor words.old)) }
     ensures rate { OnOk result ((contents-of draft.new).rate ≡ (contents-of draft.old).rate) }
     ensures nodes { OnOk result ((contents-of draft.new).nodes ≡ (contents-of draft.old).nodes) }
-    ensures stays { OnErr result (contents-of draft.new ≡ contents-of draft.old) }
 {
     if word.is(b"trim") {
         trim_layer(draft, s, word, words)
@@ -100,24 +93,21 @@ fn given_layer(
 }
 
 pub fn layer_turn(draft: &mut Draft, words: &mut Words<'_>) -> Result<(), ReadFault>
-    ensures does { paired (λ _. contents-of draft.new) result (cursor words.new) ≡ layer_form (contents-of draft.old) (cursor words.old) }
+    ensures does { Does (λ _. contents-of draft.new) result (cursor words.new) (layer_form (contents-of draft.old) (cursor words.old)) }
     ensures rate { OnOk result ((contents-of draft.new).rate ≡ (contents-of draft.old).rate) }
     ensures nodes { OnOk result ((contents-of draft.new).nodes ≡ (contents-of draft.old).nodes) }
-    ensures stays { OnErr result (contents-of draft.new ≡ contents-of draft.old) }
 {
     let s = numbered(draft, Role::SetUnit, words)?;
     let word = words.word()?;
     given_layer(draft, s, &word, words)
 }
 
-// Adds a node that fits.
-fn hold_node(draft: &mut Draft, node: Node) -> Result<(), ReadFault>
-    requires { node_fits (contents-of draft.old) node ≡ true }
-    ensures after { OnOk result (contents-of draft.new ≡ with_node (contents-of draft.old) node) }
+pub fn node_turn(draft: &mut Draft, words: &mut Words<'_>) -> Result<(), ReadFault>
+    ensures does { Does (λ _. contents-of draft.new) result (cursor words.new) (node_turn (contents-of draft.old) (cursor words.old)) }
+    ensures rate { OnOk result ((contents-of draft.new).rate ≡ (contents-of draft.old).rate) }
     ensures nodes { OnOk result (length (contents-of draft.new).nodes ≡ length (contents-of draft.old).nodes + 1) }
-    ensures stays { OnErr result (contents-of draft.new ≡ contents-of draft.old) }
-    ensures memory { IfErr result (λ fault. (fault ≡ ReadFault.NoMemory) × NodesFull draft.old) }
 {
+    let node = node(draft, words)?;
     match draft.add_node(node) {
         Ok(()) => Ok(()),
         Err(DraftFault::NoMemory) => Err(ReadFault::NoMemory),
@@ -125,25 +115,14 @@ fn hold_node(draft: &mut Draft, node: Node) -> Result<(), ReadFault>
     }
 }
 
-pub fn node_turn(draft: &mut Draft, words: &mut Words<'_>) -> Result<(), ReadFault>
-    ensures does { Does (λ _. contents-of draft.new) result (cursor words.new) (node_turn (contents-of draft.old) (cursor words.old)) ((is_ok (node_turn (contents-of draft.old) (cursor words.old)) ≡ true) × NodesFull draft.old) }
-    ensures rate { OnOk result ((contents-of draft.new).rate ≡ (contents-of draft.old).rate) }
-    ensures nodes { OnOk result (length (contents-of draft.new).nodes ≡ length (contents-of draft.old).nodes + 1) }
-    ensures stays { OnErr result (contents-of draft.new ≡ contents-of draft.old) }
-{
-    let node = node(draft, words)?;
-    hold_node(draft, node)
-}
-
 pub fn line_turn(
     draft: &mut Draft,
     word: &Token<'_>,
     words: &mut Words<'_>,
 ) -> Result<(), ReadFault>
-    ensures does { Does (λ _. contents-of draft.new) result (cursor words.new) (line_turn (contents-of draft.old) (item word.now) (cursor words.old)) ((is_ok (line_turn (contents-of draft.old) (item word.now) (cursor words.old)) ≡ true) × LinesFull draft.old) }
+    ensures does { Does (λ _. contents-of draft.new) result (cursor words.new) (line_turn (contents-of draft.old) (item word.now) (cursor words.old)) }
     ensures rate { OnOk result ((contents-of draft.new).rate ≡ (contents-of draft.old).rate) }
     ensures nodes { OnOk result ((contents-of draft.new).nodes ≡ (contents-of draft.old).nodes) }
-    ensures stays { OnErr result (contents-of draft.new ≡ contents-of draft.old) }
 {
     let line = line(draft, word, words)?;
     match draft.add_line(line) {

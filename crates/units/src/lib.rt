@@ -1,4 +1,6 @@
 // Units: processors behind one interface, of four kinds, and two layers over any unit.
+#![tactic(auto)]
+
 pub mod bypass;
 pub mod delay;
 pub mod fir;

@@ -1,13 +1,10 @@
 ghost use Rattle.std.specs.Prelude.{◌≡◌, length, MatchOption};
 ghost use Rattle.units.specs.Ranges.{FirRange, LimitRange, PanRange, DelayRange};
 
-// Room for a fir's taps.
-pub type Taps = [i16; 31];
-
 // What a fir is set by: the first `count` of the taps, for the newest frame first.
 #[derive(Clone, Copy)]
 pub struct FirSettings {
-    pub taps: Taps,
+    pub taps: [i16; 31],
     pub count: u8,
     ghost full: { length taps ≡ 31 },
     ghost range: { FirRange count },
@@ -15,7 +12,7 @@ pub struct FirSettings {
 
 impl FirSettings {
     // None where the number of taps is even or above 31.
-    pub fn new(taps: Taps, count: u8) -> Option<FirSettings>
+    pub fn new(taps: [i16; 31], count: u8) -> Option<FirSettings>
         ensures { MatchOption result (FirRange count → ⊥) (λ s. (s.taps ≡ taps) × (s.count ≡ count)) }
     {
         if count % 2 == 1 && count <= 31 {

@@ -1,4 +1,6 @@
 // What units mean: their voices, the laws that every unit keeps, and the rules of the four kinds and the two layers.
+#![tactic(auto)]
+
 ghost use Rattle.std.specs.Prelude.{◌≡◌, true};
 ghost use Rattle.voices.specs.Examples.{Examples};
 

@@ -10,9 +10,6 @@ pub struct TrackPart {
     pub length: usize,
 }
 
-// The parts of tracks 0 to 7.
-pub type TrackParts = [TrackPart; 8];
-
 impl TrackPart {
     pub const EMPTY: TrackPart = TrackPart {
         start: 0,
@@ -20,14 +17,14 @@ impl TrackPart {
     };
 
     // Whether the part lies in a buffer of `size` bytes.
-    pub(crate) fn lies_in(self, size: usize) -> bool
+    pub fn lies_in(self, size: usize) -> bool
         ensures { result ≡ inside size self }
     {
         self.start <= size && self.length <= size - self.start
     }
 
     // How many frames a file of the part's length holds; None where no file is that long.
-    pub(crate) fn frame_count(self) -> Option<u32>
+    pub fn frame_count(self) -> Option<u32>
         ensures { result ≡ frame_count self.length }
     {
         if self.length < 44 || self.length % 4 != 0 {

@@ -4,7 +4,7 @@ ghost use Rattle.wave.specs.Laws.{wave_lawful};
 ghost use Rattle.wave.specs.Opened.{Opened};
 ghost use Rattle.wave.specs.Reel.{wave_tracks};
 
-use crate::parts::TrackParts;
+use crate::parts::TrackPart;
 use crate::reader::{WaveFault, check_reel};
 use frames::samples::Frame;
 use reels::tracks::Reel;
@@ -14,7 +14,7 @@ use session::sessions::Session;
 #[derive(Clone, Copy)]
 pub struct WaveReel<'a> {
     bytes: &'a [u8],
-    parts: TrackParts,
+    parts: [TrackPart; 8],
 }
 
 impl<'a> WaveReel<'a> {
@@ -22,7 +22,7 @@ impl<'a> WaveReel<'a> {
     pub fn open(
         session: &Session,
         bytes: &'a [u8],
-        parts: TrackParts,
+        parts: [TrackPart; 8],
     ) -> Result<WaveReel<'a>, WaveFault>
         ensures { Opened (reel_fault (held session.now) bytes.now parts) bytes.now parts result }
     {

@@ -42,11 +42,8 @@ fn head_around(size: [u8; 4], rate: [u8; 4], byte_rate: [u8; 4], data: [u8; 4]) 
     ]
 }
 
-// What stands before a file's frames.
-pub type Head = [u8; 44];
-
 // The 44 bytes that stand before `n` frames at a rate.
-pub fn head(n: u32, rate: u32) -> Head
+pub fn head(n: u32, rate: u32) -> [u8; 44]
     ensures { result ≡ head_bytes n rate }
 {
     let frames = u64::from(n);

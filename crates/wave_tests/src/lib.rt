@@ -1,4 +1,6 @@
 // WAVE files, run on examples.
+#![tactic(auto)]
+
 #[cfg(test)]
 mod reading;
 #[cfg(test)]

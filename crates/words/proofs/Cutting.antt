@@ -1,7 +1,7 @@
 -- The first piece, and those after it.
-use Rattle.std.proofs.Common.{◌≡◌, ℕ, zero, suc, ◌+◌, ◌-◌, ◌<◌, ◌≤◌, Bool, true, false, cond, not, eqb, ltb, leb, List, [], ◌∷◌, length, take, drop, sym, refl, ap, ◌∙◌, ap₂, ⊎_elim, arith}
+use Rattle.std.proofs.Common.{◌≡◌, ℕ, zero, suc, ◌+◌, ◌-◌, ◌<◌, ◌≤◌, Bool, true, false, cond, eqb, ltb, leb, List, [], ◌∷◌, length, take, drop, sym, refl, ap, ◌∙◌, ap₂, ⊎_elim, arith}
 use Rattle.std.proofs.lemmas.List.{drop_all, drop-drop, length-drop}
-use Rattle.std.proofs.lemmas.Bool.{cases_lt, cond-false, cond-true, eq-eqb, le-leb, lt-leb, lt-ltb, ne_eqb}
+use Rattle.std.proofs.lemmas.Bool.{cases_eq, cases_lt, cond-false, cond-true, eq-eqb, le-leb, le-ltb, lt-leb, lt-ltb, ne_eqb}
 use Rattle.std.proofs.lemmas.Bool.Decides.{nat_tests}
 use Rattle.words.specs.declared.pieces.Pieces.{Pieces}
 use Rattle.words.specs.Pieces.{is_nil, lengthen, nothing_follows, pieces, split, upto}
@@ -55,11 +55,10 @@ pieces_step p q end eb em h ee eq =
     ∙ ap₂ (λ k l. take k (drop p.at xs) ∷ l) n
     (ap (λ j. cond (leb j (length xs)) (split p.mark (drop j xs)) []) a ∙ ap₂ (λ m l. cond (leb q.at (length l)) (split m (drop q.at l)) []) (sym em) (sym eb))
 
--- a piece is left up to the bytes' end
-pub pieces_left : (p : Pieces) → leb p.at (length p.bytes.now) ≡ not (is_nil (pieces p))
-pieces_left p =
-    ⊎_elim (λ l. lt-leb p.at (length p.bytes.now) l ∙ sym (ap (λ ps. not (is_nil ps)) (pieces_none p l)))
-    (λ g. le-leb p.at (length p.bytes.now) g ∙ sym (ap (λ ps. not (is_nil ps)) (pieces_some p g ∙ split_first p.mark (drop p.at p.bytes.now))))
+pub pieces_done : (p : Pieces) → ltb (length p.bytes.now) p.at ≡ is_nil (pieces p)
+pieces_done p =
+    ⊎_elim (λ l. lt-ltb (length p.bytes.now) p.at l ∙ sym (ap is_nil (pieces_none p l)))
+    (λ g. le-ltb (length p.bytes.now) p.at g ∙ sym (ap is_nil (pieces_some p g ∙ split_first p.mark (drop p.at p.bytes.now))))
     (cases_lt (length p.bytes.now) p.at)
 
 -- some bytes are more than one empty piece
@@ -76,10 +75,11 @@ rest_follows : (m : ℕ) (xs : List ℕ) → 0 < length xs → nothing_follows (
 rest_follows m [] h = absurd (omega arith)
 rest_follows m (x ∷ xs) h = some_follow m x xs
 
--- past the last mark, nothing follows where no byte is left
-pub pieces_spent : (p : Pieces) → p.at ≤ length p.bytes.now → eqb (length p.bytes.now - p.at) 0 ≡ nothing_follows (pieces p)
+pub pieces_spent : (p : Pieces) → eqb p.at (length p.bytes.now) ≡ nothing_follows (pieces p)
 unfolding split
-pieces_spent p g =
-    ⊎_elim (λ l. ne_eqb _ 0 (λ z. omega (arith, l)) ∙ sym (ap nothing_follows (pieces_some p g) ∙ rest_follows p.mark (drop p.at p.bytes.now) (rw (length-drop p.at p.bytes.now) (omega (arith, l)))))
-    (λ e. eq-eqb _ 0 (omega (arith, e)) ∙ sym (ap nothing_follows (pieces_some p g ∙ ap (split p.mark) (drop_all p.at p.bytes.now e))))
-    (cases_lt p.at (length p.bytes.now))
+pieces_spent p =
+    ⊎_elim (λ l. ne_eqb p.at (length p.bytes.now) (λ e. omega arith) ∙ sym (ap nothing_follows (pieces_none p l)))
+    (λ g. ⊎_elim (λ e. eq-eqb p.at (length p.bytes.now) e ∙ sym (ap nothing_follows (pieces_some p g ∙ ap (split p.mark) (drop_all p.at p.bytes.now (omega arith)))))
+    (λ n. ne_eqb p.at (length p.bytes.now) n ∙ sym (ap nothing_follows (pieces_some p g) ∙ rest_follows p.mark (drop p.at p.bytes.now) (rw (length-drop p.at p.bytes.now) (omega arith))))
+    (cases_eq p.at (length p.bytes.now)))
+    (cases_lt (length p.bytes.now) p.at)

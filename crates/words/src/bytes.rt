@@ -45,7 +45,7 @@ pub fn known_run(bytes: &[u8]) -> usize
     bytes.len()
 }
 
-pub(crate) fn all_letters(bytes: &[u8]) -> bool
+pub fn all_letters(bytes: &[u8]) -> bool
     ensures { result ≡ all_letters bytes.now }
 {
     for b in bytes {
@@ -56,7 +56,7 @@ pub(crate) fn all_letters(bytes: &[u8]) -> bool
     true
 }
 
-pub(crate) fn all_digits(bytes: &[u8]) -> bool
+pub fn all_digits(bytes: &[u8]) -> bool
     ensures { result ≡ all_digits bytes.now }
 {
     for b in bytes {

@@ -25,7 +25,7 @@ fn is_well_spelt(digits: &[u8]) -> bool
 }
 
 // The number that digits write, where they are well spelt.
-pub(crate) fn whole(digits: &[u8]) -> Option<u32>
+pub fn whole(digits: &[u8]) -> Option<u32>
     ensures { result ≡ whole digits.now }
 {
     if is_well_spelt(digits) {
@@ -43,7 +43,7 @@ fn is_negative(bytes: &[u8]) -> bool
 }
 
 // The digits of a number, without its hyphen.
-pub(crate) fn digits_of(bytes: &[u8]) -> &[u8]
+pub fn digits_of(bytes: &[u8]) -> &[u8]
     ensures { result.now ≡ unsigned bytes.now }
 {
     if is_negative(bytes) {
@@ -72,7 +72,7 @@ fn negative(n: Option<u32>) -> Option<i16>
 }
 
 // The gain that a hyphen and digits, or digits, write.
-pub(crate) fn gain(bytes: &[u8]) -> Option<i16>
+pub fn gain(bytes: &[u8]) -> Option<i16>
     ensures { result ≡ gain bytes.now }
 {
     let n = whole(digits_of(bytes));

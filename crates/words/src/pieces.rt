@@ -1,4 +1,4 @@
-ghost use Rattle.std.specs.Prelude.{◌+◌, ◌≤◌, length};
+ghost use Rattle.std.specs.Prelude.{◌≤◌, length};
 
 pub mod cuts;
 
@@ -9,5 +9,6 @@ pub struct Pieces<'a> {
     bytes: &'a [u8],
     mark: u8,
     at: usize,
-    ghost near: { at ≤ length bytes.now + 1 },
+    ghost short: { length bytes.now ≤ 16384 },
+    ghost near: { at ≤ 16385 },
 }

@@ -1,10 +1,10 @@
 // What holds of the definitions that contracts cite: ten worked examples of the console's rules, placing and sweeps, and
 // files.
+#![tactic(auto)]
+
 ghost use Rattle.std.specs.Prelude.{◌≡◌, true};
 ghost use Rattle.worked.specs.Examples.{TenExamples};
 
-pub mod files;
-pub mod placing;
 mod proved;
 
 // The ten examples are right.

@@ -11,14 +11,14 @@ fn at(numbers: &[Option<u8>], i: usize) -> Option<u8>
 
 impl Inputs {
     // The first line into a node.
-    pub(crate) fn first_into(&self, v: usize) -> Option<u8>
+    pub fn first_into(&self, v: usize) -> Option<u8>
         ensures { result ≡ first_into self.now v }
     {
         at(&self.first, v)
     }
 
     // After a line, the next one into the same node.
-    pub(crate) fn next_after(&self, i: usize) -> Option<u8>
+    pub fn next_after(&self, i: usize) -> Option<u8>
         ensures { result ≡ next_after self.now i }
     {
         at(&self.next, i)

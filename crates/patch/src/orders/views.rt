@@ -17,7 +17,7 @@ impl Order {
     }
 
     // The nodes, each after those that it hears.
-    pub(crate) fn nodes(&self) -> &[u8]
+    pub fn nodes(&self) -> &[u8]
         ensures { result.now ≡ listed self.now }
     {
         &self.nodes[0..self.count]

@@ -4,6 +4,7 @@ ghost use Rattle.patch.specs.Patches.{delays, feeder_sets, feeders_of, late_of, 
 ghost use Rattle.patch.specs.declared.faults.PatchFault.TheVariants.{NotDeclared};
 
 use crate::faults::PatchFault;
+use crate::inputs::Inputs;
 use crate::inputs::arranging::no_inputs;
 use crate::orders::Order;
 use crate::patches::Patch;
@@ -40,7 +41,7 @@ impl Patch {
     }
 
     // The nodes that feed each node, itself included: bit v for node v.
-    pub(crate) fn feeder_sets(&self) -> &[u16]
+    pub fn feeder_sets(&self) -> &[u16]
         ensures { result.now ≡ feeder_sets self.now }
     {
         &self.fed[0..self.order.len()]
@@ -51,6 +52,13 @@ impl Patch {
         ensures { result.now ≡ delays self.now }
     {
         &self.held[0..self.lines]
+    }
+
+    // The lines by their ends.
+    pub fn inputs(&self) -> &Inputs
+        ensures { result.now ≡ self.now.inputs }
+    {
+        &self.inputs
     }
 
     // The first line into a node.

@@ -1,5 +1,5 @@
 ghost use Rattle.std.specs.Prelude.{◌≡◌};
-ghost use Rattle.session.specs.Held.{nothing, setting, unset};
+ghost use Rattle.session.specs.Held.{nothing, setting};
 ghost use Rattle.session.specs.Sessions.{held};
 
 use crate::nodes::{Line, Node};
@@ -8,15 +8,11 @@ use crate::settings::Setting;
 use std::alloc::Global;
 
 // A unit that is not set.
-fn unset() -> Setting
-    ensures { result ≡ unset }
-{
-    Setting {
-        kind: None,
-        trim: None,
-        bypass: false,
-    }
-}
+const UNSET: Setting = Setting {
+    kind: None,
+    trim: None,
+    bypass: false,
+};
 
 impl Session {
     // The empty session.
@@ -27,7 +23,7 @@ impl Session {
             rate: 0,
             nodes: Vec::new(heap),
             lines: Vec::new(heap),
-            settings: [unset(); 8],
+            settings: [UNSET; 8],
         }
     }
 
@@ -54,9 +50,6 @@ impl Session {
     pub fn setting(&self, s: usize) -> Setting
         ensures { result ≡ setting (held self.now).settings s }
     {
-        match self.settings.get(s) {
-            Some(setting) => *setting,
-            None => unset(),
-        }
+        if s < 8 { self.settings[s] } else { UNSET }
     }
 }

@@ -12,6 +12,6 @@ returns c =
     ap (λ n. take (n - from) (drop from ds)) (sym long) ∙ take_rest ds from ∙ c.zeros-from.ensures.rest in
     let was = c.args.out.now in
     record {
-      items = c.extend-from-slice.ensures.items ∙ ap (λ l. cond (is_ok c.extend-from-slice.result) (vec_items was ++ l) (vec_items was)) part;
-      room = λ h. c.extend-from-slice.ensures.succeeds (subst (λ l. vec_len was + length l ≤ vec_capacity was) (sym part) h);
+      items = c.extend_from_slice.ensures.items ∙ ap (λ l. cond (is_ok c.extend_from_slice.result) (vec_items was ++ l) (vec_items was)) part;
+      room = λ h. c.extend_from_slice.ensures.succeeds (subst (λ l. vec_len was + length l ≤ vec_capacity was) (sym part) h);
     }

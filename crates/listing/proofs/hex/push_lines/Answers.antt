@@ -24,11 +24,11 @@ loop-f-preserved c =
     let inv = c.loop-f.invariant in
     let len = inv.1 in
     let cap = inv.2 in (
-      c.in-default.ensures.items ∙ ap₂ ◌++◌ inv.0 c.line-of.ensures
+      c.in_default.ensures.items ∙ ap₂ ◌++◌ inv.0 c.line_of.ensures
           ∙ flat_map_more frame_line (vec_items c.args.out.now) (take i fs) (get_or fs i (record { left = pos 0; right = pos 0 }))
           ∙ ap (λ l. vec_items c.args.out.now ++ frame_lines l) (sym (take_more fs i (record { left = pos 0; right = pos 0 }) c.loop-f-test.true)),
-      omega (arith, len, c.in-default.ensures.len),
-      omega (arith, cap, c.in-default.ensures.capacity),
+      omega (arith, len, c.in_default.ensures.len),
+      omega (arith, cap, c.in_default.ensures.capacity),
     )
 
 pub returns : goal.returns

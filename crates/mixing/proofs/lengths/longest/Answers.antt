@@ -19,7 +19,7 @@ loop-node-preserved g c =
     let nodes = c.args.nodes.now in
     let k = c.loop-node.node-index in
     let node = get_or nodes k first in
-    c.longer-most.ensures ∙ ap₂ max c.source-length.ensures c.loop-node.invariant
+    c.longer-most.ensures ∙ ap₂ max c.source_length.ensures c.loop-node.invariant
     ∙ sym (ap (longest reel) (take_more nodes k first c.loop-node-test.true) ∙ greatest_push (λ (n : Node). source_length reel n.source) (take k nodes) node)
 
 -- no source is longer than a track may be

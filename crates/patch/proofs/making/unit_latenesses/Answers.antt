@@ -16,7 +16,7 @@ more f xs v x b here before w l =
 pub loop-v-preserved : goal.loop-v-preserved
 loop-v-preserved g c =
     let same = get_or_default c.args.nodes.now c.loop-v.v (record { source = Track 0; unit = None }) (record { source = Bus; unit = None }) c.loop-v-test.true in (
-      length-set c.loop-v.units c.loop-v.v c.unit-lateness.result ∙ c.loop-v.invariant.0,
-      more _ c.loop-v.units c.loop-v.v c.unit-lateness.result (omega (arith, c.loop-v.invariant.0))
-          (c.unit-lateness.ensures ∙ ap (λ n. unit_late (g.R.Rack.units c.args.rack.now) n.unit) same) c.loop-v.invariant.1,
+      length-set c.loop-v.units c.loop-v.v c.unit_lateness.result ∙ c.loop-v.invariant.0,
+      more _ c.loop-v.units c.loop-v.v c.unit_lateness.result (omega (arith, c.loop-v.invariant.0))
+          (c.unit_lateness.ensures ∙ ap (λ n. unit_late (g.R.Rack.units c.args.rack.now) n.unit) same) c.loop-v.invariant.1,
     )

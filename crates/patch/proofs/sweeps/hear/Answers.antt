@@ -29,7 +29,7 @@ loop-at-preserved g c =
     let x = get_or values start c.index-values-lines.result in
     let read : x ≡ value_at kind lines values i =
     get_or_default values start c.index-values-lines.result kind.start
-    (omega (arith, c.type-inv.values, c.requires.1.0.starts i (c.loop-at.invariant.0 i c.in-Some.is))) in
+    (omega (arith, c.type_inv.values, c.requires.1.0.starts i (c.loop-at.invariant.0 i c.in-Some.is))) in
     hears-on kind lines c.args.inputs.now values c.args.v c.loop-at.heard (Some c.match-heard.heard) c.loop-at.at i
     c.match-heard.heard c.loop-at.invariant c.in-Some.is refl
     (elim c.match-heard.branch [
@@ -48,7 +48,7 @@ returns-in-Some-heard-2 g c =
     sym (ap (or_start kind.start) c.in-Some-heard-2.is)
     ∙ hears-all kind c.args.lines.now c.args.inputs.now c.args.values.now c.args.v c.loop-at.heard
     (subst (λ at. Hearing kind c.args.lines.now c.args.inputs.now c.args.values.now c.args.v c.loop-at.heard at)
-    c.in-default.is c.loop-at.invariant)
+    c.in_default.is c.loop-at.invariant)
 
 pub returns-in-None-heard : goal.returns-in-None-heard
 returns-in-None-heard g c =
@@ -57,4 +57,4 @@ returns-in-None-heard g c =
     ∙ (sym (ap (or_start kind.start) c.in-None-heard.is)
     ∙ hears-all kind c.args.lines.now c.args.inputs.now c.args.values.now c.args.v c.loop-at.heard
     (subst (λ at. Hearing kind c.args.lines.now c.args.inputs.now c.args.values.now c.args.v c.loop-at.heard at)
-    c.in-default.is c.loop-at.invariant))
+    c.in_default.is c.loop-at.invariant))

@@ -4,4 +4,4 @@ use Rattle.voices.specs.Kinds.{limit_unit}
 use Rattle.std.proofs.Common.{ap, ◌∙◌, ap₂}
 
 pub returns : goal.returns
-returns c = c.strip.ensures ∙ ap (layered c.args.entry) (c.new.ensures ∙ ap₂ limit_unit c.limit-settings.ensures.lookahead c.limit-settings.ensures.ceiling)
+returns c = c.strip.ensures ∙ ap (layered c.args.entry) (c.new.ensures ∙ ap₂ limit_unit c.limit_settings.ensures.lookahead c.limit_settings.ensures.ceiling)

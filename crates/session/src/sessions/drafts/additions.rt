@@ -1,6 +1,6 @@
 ghost use Rattle.std.specs.Prelude.{◌≡◌, is_ok, if◌then◌else◌};
 ghost use Rattle.session.specs.Contents.{contents, free, line_fits, no_contents, node_fits, rate_fits, ready, with_line, with_node, with_rate};
-ghost use Rattle.session.specs.Drafts.{AnswersFit, LinesFull, NodesFull, draft};
+ghost use Rattle.session.specs.Drafts.{AnswersFit, draft};
 ghost use Rattle.session.specs.Sessions.{held};
 
 use crate::nodes::{Line, Node};
@@ -52,7 +52,7 @@ impl Draft {
 
     // Adds a node after the others.
     pub fn add_node(&mut self, node: Node) -> Result<(), DraftFault>
-        ensures fits { AnswersFit result (node_fits (draft self.old) node) (NodesFull self.old) }
+        ensures fits { AnswersFit result (node_fits (draft self.old) node) }
         ensures after { draft self.new ≡ (if is_ok result then with_node (draft self.old) node else draft self.old) }
     {
         if self.nodes.len() >= 16 || !self.has_free(node.unit) {
@@ -66,7 +66,7 @@ impl Draft {
 
     // Adds a line after the others.
     pub fn add_line(&mut self, line: Line) -> Result<(), DraftFault>
-        ensures fits { AnswersFit result (line_fits (draft self.old) line) (LinesFull self.old) }
+        ensures fits { AnswersFit result (line_fits (draft self.old) line) }
         ensures after { draft self.new ≡ (if is_ok result then with_line (draft self.old) line else draft self.old) }
     {
         if self.lines.len() >= 48

@@ -5,12 +5,12 @@ use Rattle.words.specs.Pieces.{pieces}
 use Rattle.text.specs.Reading.{spaces_check}
 use Rattle.words.specs.declared.faults.ReadFault.TheVariants.{Space}
 
-pub returns-then-is-empty : goal.returns-then-is-empty
-returns-then-is-empty c =
+pub returns-then-is_empty : goal.returns-then-is_empty
+returns-then-is_empty c =
     let e = c.in-Some.ensures.cut in
-    ap (λ n. Err (Space (record { line = c.args.row; column = n }))) c.column-column.ensures
+    ap (λ n. Err (Space (record { line = c.args.row; column = n + 1 }))) c.at-column.ensures.value
     ∙ sym (ap (spaces_check c.args.row (c.loop-word.words.at + 1)) e.0
-    ∙ spaces-gap c.args.row (c.loop-word.words.at + 1) c.in-Some.word.now (pieces c.next.new.self) (sym c.is-empty.ensures ∙ c.if-is-empty.true))
+    ∙ spaces-gap c.args.row (c.loop-word.words.at + 1) c.in-Some.word.now (pieces c.next.new.self) (sym c.is_empty.ensures ∙ c.if-is_empty.true))
     ∙ c.loop-word.invariant
 
 pub loop-word-preserved : goal.loop-word-preserved
@@ -20,7 +20,7 @@ loop-word-preserved c =
     let at : c.next.new.self.at + 1 ≡ c.loop-word.words.at + 1 + n + 1 = omega (arith, e.1) in
     ap (λ k. spaces_check c.args.row k (pieces c.next.new.self)) at
     ∙ sym (ap (spaces_check c.args.row (c.loop-word.words.at + 1)) e.0
-    ∙ spaces-more c.args.row (c.loop-word.words.at + 1) c.in-Some.word.now (pieces c.next.new.self) (sym c.is-empty.ensures ∙ c.if-is-empty.false))
+    ∙ spaces-more c.args.row (c.loop-word.words.at + 1) c.in-Some.word.now (pieces c.next.new.self) (sym c.is_empty.ensures ∙ c.if-is_empty.false))
     ∙ c.loop-word.invariant
 
 pub returns-in-None : goal.returns-in-None

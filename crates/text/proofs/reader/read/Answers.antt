@@ -5,5 +5,5 @@ use Rattle.text.proofs.reader.read.Goals as goal
 
 pub returns : goal.returns
 returns c =
-    let e = c.read-text.ensures in
-    record { does = e.does; refused = e.refused; accepts = accepts c.args.text.now (contents (held c.read-text.new.session)) c.read-text.result _ e.does }
+    let e = c.read_text.ensures in
+    record { does = e.does; refused = e.refused; accepts = accepts c.args.text.now (contents (held c.read_text.new.session)) c.read_text.result e.does }

@@ -20,8 +20,8 @@ value c =
 fits : (c : goal.After-from-3) → SFits w16 (to_z w64 (of_z w64 (quot_z (to_z w64 (of_z w64 (to_z w64 (of_z w64 c.from.result) *ℤ to_z w64 (of_z w64 c.from-2.result)))) (to_z w64 (of_z w64 c.from-3.result)))))
 fits c = subst (SFits w16) (sym (value c)) (reduced_fits c.args.sample c.args.ceiling c.args.peak c.ranges.sample c.requires)
 
-pub overflow-cast-result : goal.overflow-cast-result
-overflow-cast-result c = fits c
+pub overflow_cast-result : goal.overflow_cast-result
+overflow_cast-result c = fits c
 
 pub returns : goal.returns
 returns c = to_z-of_z w16 _ (fits c) ∙ value c

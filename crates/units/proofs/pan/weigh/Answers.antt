@@ -13,8 +13,8 @@ value c =
 fits : (c : goal.After-scale) → SFits w16 (to_z w64 (of_z w64 c.scale.result))
 fits c = subst (SFits w16) (sym (value c)) (weighed_fits c.args.sample c.args.weight c.ranges.sample c.requires)
 
-pub overflow-cast-result : goal.overflow-cast-result
-overflow-cast-result c = fits c
+pub overflow_cast-result : goal.overflow_cast-result
+overflow_cast-result c = fits c
 
 pub returns : goal.returns
 returns c = to_z-of_z w16 _ (fits c) ∙ value c

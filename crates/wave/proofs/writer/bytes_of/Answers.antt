@@ -6,4 +6,4 @@ pub returns : goal.returns
 returns c =
     let l : SFits w16 c.args.f.left = search rules in
     let r : SFits w16 c.args.f.right = search rules in
-    simp (c.to-le-bytes.ensures, c.to-le-bytes-2.ensures, word_back)
+    simp (c.to_le_bytes.ensures, c.to_le_bytes-2.ensures, word_back)

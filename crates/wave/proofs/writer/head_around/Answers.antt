@@ -16,6 +16,6 @@ unfolding head_around
 returns c =
     let size = four c.args.size (search rules) in
     let rate = four c.args.rate (search rules) in
-    let byte-rate = four c.args.byte-rate (search rules) in
+    let byte-rate = four c.args.byte_rate (search rules) in
     let data-size = four c.args.«data» (search rules) in
     sym (λ i. head_around (size i) (rate i) (byte-rate i) (data-size i))

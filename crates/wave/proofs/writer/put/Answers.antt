@@ -13,7 +13,7 @@ returns c =
     let r : SFits w16 c.args.f.right = search rules in
     record {
       bytes =
-          put_mid-paste c.args.at _ out c.copy-from-slice.new.self bytes 4 (c.copy-from-slice.ensures.after ∙ c.bytes-of-bytes.ensures) (omega arith) refl
+          put_mid-paste c.args.at _ out c.copy_from_slice.new.self bytes 4 (c.copy_from_slice.ensures.after ∙ c.bytes_of-bytes.ensures) (omega arith) refl
           ∙ paste_all out c.args.at bytes 4 refl;
       samples = ((omega (arith, ints), omega (arith, ints)), (omega (arith, ints), omega (arith, ints)));
     }

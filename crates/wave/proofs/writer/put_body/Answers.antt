@@ -9,6 +9,6 @@ returns c =
     let fs = c.args.frames.now in
     let none = drop-drop (length out - 44) 44 out ∙ drop_all _ out (omega arith) in
     record {
-      bytes = ap₂ (λ x y. take 44 out ++ (x ++ y)) c.put-all.ensures.bytes none ∙ ap (λ x. take 44 out ++ x) (append-nil (frames_bytes fs));
-      samples = c.put-all.ensures.samples;
+      bytes = ap₂ (λ x y. take 44 out ++ (x ++ y)) c.put_all.ensures.bytes none ∙ ap (λ x. take 44 out ++ x) (append-nil (frames_bytes fs));
+      samples = c.put_all.ensures.samples;
     }

@@ -11,9 +11,9 @@ returns c =
     let fs = c.args.frames.now in
     let s = held c.args.session.now in
     let head = head_bytes (length fs) c.rate.result in
-    let front = ap (take 44) c.put-head.ensures ∙ take_at head (drop 44 c.args.out.now) 44 (head_length (length fs) c.rate.result) in
-    let file = c.put-body.ensures.bytes ∙ ap (λ x. x ++ frames_bytes fs) front ∙ ap (λ r. file_bytes r fs) c.rate.ensures in
+    let front = ap (take 44) c.put_head.ensures ∙ take_at head (drop 44 c.args.out.now) 44 (head_length (length fs) c.rate.result) in
+    let file = c.put_body.ensures.bytes ∙ ap (λ x. x ++ frames_bytes fs) front ∙ ap (λ r. file_bytes r fs) c.rate.ensures in
     record {
       bytes = file;
-      back = file_read_back s fs c.put-body.new.out c.requires.node c.requires.few c.put-body.ensures.samples file;
+      back = file_read_back s fs c.put_body.new.out c.requires.node c.requires.few c.put_body.ensures.samples file;
     }

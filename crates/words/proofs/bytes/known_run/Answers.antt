@@ -3,15 +3,15 @@ use Rattle.std.proofs.lemmas.Bool.{cond-false, cond-true}
 use Rattle.words.proofs.Runs.{known-end, known_more}
 use Rattle.words.proofs.bytes.known_run.Goals as goal
 
-pub returns-then-not-is-known : goal.returns-then-not-is-known
-returns-then-not-is-known c =
-    let e = known_more c.args.bytes.now c.loop-i.i (omega arith) ∙ cond-false _ _ _ (sym c.is-known.ensures ∙ c.if-not-is-known.true) in
+pub returns-then-not-is_known : goal.returns-then-not-is_known
+returns-then-not-is_known c =
+    let e = known_more c.args.bytes.now c.loop-i.i (omega arith) ∙ cond-false _ _ _ (sym c.is_known.ensures ∙ c.if-not-is_known.true) in
     let i = c.loop-i.invariant in
     record { value = omega arith; bound = omega arith }
 
 pub loop-i-preserved : goal.loop-i-preserved
 loop-i-preserved c =
-    let e = known_more c.args.bytes.now c.loop-i.i (omega arith) ∙ cond-true _ _ _ (sym c.is-known.ensures ∙ c.if-not-is-known.false) in
+    let e = known_more c.args.bytes.now c.loop-i.i (omega arith) ∙ cond-true _ _ _ (sym c.is_known.ensures ∙ c.if-not-is_known.false) in
     let i = c.loop-i.invariant in
     omega arith
 

@@ -3,8 +3,8 @@ use Rattle.words.proofs.Runs.{digit_at, read-end, read_more, ten_times}
 use Rattle.words.proofs.numbers.value.Goals as goal
 use Rattle.words.specs.Numbers.{read_on}
 
-pub overflow-sub-d : goal.overflow-sub-d
-overflow-sub-d c = (digit_at c.args.digits.now c.loop-d.d-index c.requires.0 c.loop-d-test.true).0
+pub overflow_sub-d : goal.overflow_sub-d
+overflow_sub-d c = (digit_at c.args.digits.now c.loop-d.d-index c.requires.0 c.loop-d-test.true).0
 
 pub loop-d-preserved : goal.loop-d-preserved
 loop-d-preserved c =

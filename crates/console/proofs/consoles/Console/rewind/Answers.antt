@@ -6,9 +6,9 @@ use Rattle.console.specs.Points.{point}
 
 pub returns : goal.returns
 returns g c =
-    let h = c.go-back.ensures in
+    let h = c.go_back.ensures in
     let here = point c.args.self.now (g.R.Rack.units c.args.rack.now) c.args.tape.now in
-    let there = point c.go-back.new.self (g.R.Rack.units c.go-back.new.rack) c.go-back.new.tape in
-    let done : Rewound here there c.go-back.result =
+    let there = point c.go_back.new.self (g.R.Rack.units c.go_back.new.rack) c.go_back.new.tape in
+    let done : Rewound here there c.go_back.result =
     record { answer = h.answer; desk = h.desk; position = h.position; units = h.rack; tape = h.tape } in
-    record { promise = done; history = λ reel heard before. keeps reel there _ (rewound here there heard c.go-back.result before done) }
+    record { promise = done; history = λ reel heard before. keeps reel there _ (rewound here there heard c.go_back.result before done) }

@@ -5,8 +5,8 @@ use Rattle.console.proofs.desks.Desk.empty.Goals as goal
 none : (j : ℕ) → j < 0 → ⊥
 none j h = omega arith
 
-pub invariant-of-result : goal.invariant-of-result
-invariant-of-result c =
+pub invariant_of-result : goal.invariant_of-result
+invariant_of-result c =
     let h = c.empty.ensures in (
       (refl, refl, refl, omega arith, omega arith),
       (

@@ -18,9 +18,9 @@ loop-k-preserved g c =
     let k = c.loop-k.k in
     let first = deck (g.R.Rack.units c.args.rack.now) c.args.tape.now in
     let out = c.args.out.now in
-    let h = c.fill-one.ensures in
-    let long : length c.fill-one.new.tape ≡ 16384 = search rules in
-    let now : deck (g.R.Rack.units c.fill-one.new.rack) c.fill-one.new.tape ≡ after_frames p order delay reel (k + 1) n first =
+    let h = c.fill_one.ensures in
+    let long : length c.fill_one.new.tape ≡ 16384 = search rules in
+    let now : deck (g.R.Rack.units c.fill_one.new.rack) c.fill_one.new.tape ≡ after_frames p order delay reel (k + 1) n first =
     h.deck ∙ ap (frame_work p order delay reel (n + k)) c.loop-k.invariant.1 ∙ sym (after_more p order delay reel k n first) in (
       long,
       now,

@@ -12,10 +12,10 @@ loop-v-preserved g c =
     let k = c.loop-v.v-index in
     let work = node_work (desk_plan d) (delay_of d.patch) (g.L.Reel.tracks c.args.reel.now) c.args.n in
     let first = deck (g.R.Rack.units c.args.rack.now) c.args.tape.now in
-    let long : length c.play-node.new.tape ≡ 16384 = search rules in
+    let long : length c.play_node.new.tape ≡ 16384 = search rules in
     let inside : k < length (ordered_nodes d.patch) = omega (arith, c.loop-v-test.true, ap length c.order-v-items.ensures) in (
       long,
-      c.play-node.ensures ∙ ap₂ work c.loop-v.invariant.1 (ap (λ order. get_or order k 0) c.order-v-items.ensures)
+      c.play_node.ensures ∙ ap₂ work c.loop-v.invariant.1 (ap (λ order. get_or order k 0) c.order-v-items.ensures)
           ∙ sym (fold_more work first (ordered_nodes d.patch) k 0 inside),
     )
 

@@ -20,8 +20,8 @@ front_copy xs copied row all k e c same = ap₂ take same c ∙ copied_front xs 
 pub copy-requires : goal.copy-requires
 copy-requires g c = let rules = rules_of c.args.session.now _ _ c.requires in omega (arith, ap length c.nodes.ensures, rules.few_nodes)
 
-pub invariant-of-result : goal.invariant-of-result
-invariant-of-result g c =
+pub invariant_of-result : goal.invariant_of-result
+invariant_of-result g c =
     let s = c.args.session.now in
     let p = (held s).plan in
     let r = c.args.patch in

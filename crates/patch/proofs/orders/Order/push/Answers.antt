@@ -17,8 +17,8 @@ agrees nodes placed count v n p c l h w b =
       | inr ne ↦ get_or-set_other placed v w true false (λ e. ne (sym e)) ∙ (h w b ∙ (sym (stands_other (take count nodes) v w ne) ∙ ap (λ xs. stands xs w) (sym more)))
     ]
 
-pub invariant-of-self : goal.invariant-of-self
-invariant-of-self c =
+pub invariant_of-self : goal.invariant_of-self
+invariant_of-self c =
     let self = c.args.self.now in
     let short : self.count < 16 = omega (arith, length-take-le self.count self.nodes (omega (arith, self.sixteen.0, self.sixteen.2))) in (
       (length-set self.nodes self.count c.args.v ∙ self.sixteen.0, length-set self.placed c.args.v true ∙ self.sixteen.1, omega arith),

@@ -20,8 +20,8 @@ loop-order-preserved c =
     grows_on p order (listed c.push.new.self) c.in-Some.v c.loop-order.invariant (omega arith)
     (next_some (plan_of [] c.args.lines.now) order (length c.args.nodes.now) c.in-Some.v c.in-Some.ensures) c.push.ensures
 
-pub returns-in-default : goal.returns-in-default
-returns-in-default c =
+pub returns-in_default : goal.returns-in_default
+returns-in_default c =
     let p = plan_of c.args.nodes.now c.args.lines.now in
     let order = listed c.loop-order.order in
-    sym (stays p _ order (next_none (plan_of [] c.args.lines.now) order (length c.args.nodes.now) c.in-default.ensures)) ∙ c.loop-order.invariant
+    sym (stays p _ order (next_none (plan_of [] c.args.lines.now) order (length c.args.nodes.now) c.in_default.ensures)) ∙ c.loop-order.invariant

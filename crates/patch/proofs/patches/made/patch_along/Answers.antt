@@ -25,9 +25,9 @@ pub returns : goal.returns
 returns g c =
     let p = plan_of c.args.nodes.now c.args.lines.now in
     let rack = c.args.rack.now in
-    let units = c.unit-latenesses-units.result in
+    let units = c.unit_latenesses-units.result in
     assembled p (g.R.Rack.units rack) _ units c.requires.0 (g.R.Rack.lawful rack) c.requires.1.0 c.requires.1.1 refl c.arrange-inputs.ensures
-    c.unit-latenesses-units.ensures.units
+    c.unit_latenesses-units.ensures.units
     (subst (λ xs. Swept_to (lateness_kind units) p.lines xs (length xs) (by_node (lateness_kind units) c.sweep-late.result))
     c.nodes.ensures c.sweep-late.ensures.swept)
     (subst (λ xs. Swept_to feeders_kind p.lines xs (length xs) (by_node feeders_kind c.sweep-fed.result))

@@ -4,7 +4,7 @@ use Rattle.session.proofs.Rules.{full}
 use Rattle.session.specs.Plan.{KeepsRules}
 use Rattle.session.specs.Sessions.{held}
 
-pub order-of-requires : goal.order-of-requires
-order-of-requires c =
+pub order_of-requires : goal.order_of-requires
+order_of-requires c =
     let session = c.args.session.now in
     of_same KeepsRules (held session).plan _ _ c.nodes.ensures c.lines.ensures (full session c.requires).keeps

@@ -8,8 +8,8 @@ use Rattle.session.proofs.Rules.{full}
 use Rattle.session.specs.Plan.{KeepsRules}
 use Rattle.session.specs.Sessions.{held}
 
-pub patch-along-requires : goal.patch-along-requires
-patch-along-requires g c =
+pub patch_along-requires : goal.patch_along-requires
+patch_along-requires g c =
     let session = c.args.session.now in
     let p = (held session).plan in
     let rack = g.R.Rack.units c.args.rack.now in (

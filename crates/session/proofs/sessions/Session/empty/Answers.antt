@@ -1,6 +1,7 @@
-use Rattle.std.proofs.Common.{replicate, refl, inl}
+use Rattle.std.proofs.Common.{replicate, refl, ap₂, inl}
 use Rattle.session.proofs.sessions.Session.empty.Goals as goal
+use Rattle.session.specs.Held.{unset}
 
-pub invariant-of-result : goal.invariant-of-result
-invariant-of-result c =
-    (refl, (∣ inl (λ i. record { rate = 0; plan = record { nodes = c.new.ensures.items i; lines = c.new-2.ensures.items i }; settings = replicate 8 (c.unset.ensures i) }) ∣₁, tt))
+pub invariant_of-result : goal.invariant_of-result
+invariant_of-result c =
+    (refl, (∣ inl (ap₂ (λ n l. record { rate = 0; plan = record { nodes = n; lines = l }; settings = replicate 8 unset }) c.new.ensures.items c.new-2.ensures.items) ∣₁, tt))

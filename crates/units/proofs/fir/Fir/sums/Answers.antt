@@ -5,11 +5,11 @@ use Rattle.units.proofs.Tapping.{added, tapped_more}
 use Rattle.units.proofs.fir.Fir.sums.Goals as goal
 use Rattle.units.specs.Heard.{heard}
 
-pub overflow-add-left : goal.overflow-add-left
-overflow-add-left c = omega (arith, ints, abs_is, c.product-left.ensures.bound, c.loop-k.invariant.2)
+pub overflow_add-left : goal.overflow_add-left
+overflow_add-left c = omega (arith, ints, abs_is, c.product-left.ensures.bound, c.loop-k.invariant.2)
 
-pub overflow-add-right : goal.overflow-add-right
-overflow-add-right c = omega (arith, ints, abs_is, c.product-right.ensures.bound, c.loop-k.invariant.3)
+pub overflow_add-right : goal.overflow_add-right
+overflow_add-right c = omega (arith, ints, abs_is, c.product-right.ensures.bound, c.loop-k.invariant.3)
 
 pub loop-k-preserved : goal.loop-k-preserved
 loop-k-preserved c =

@@ -6,19 +6,19 @@ use Rattle.session.proofs.sessions.drafts.Draft.give_trim.Goals as goal
 use Rattle.session.specs.Drafts.{drafted}
 use Rattle.std.proofs.lemmas.List.{length-set}
 
-pub put-trim-requires : goal.put-trim-requires
-put-trim-requires c = set_below c.args.self.now.settings c.args.s c.args.self.now.eight (sym c.is-set.ensures ∙ c.if-is-set.true)
+pub put_trim-requires : goal.put_trim-requires
+put_trim-requires c = set_below c.args.self.now.settings c.args.s c.args.self.now.eight (sym c.is_set.ensures ∙ c.if-is_set.true)
 
-pub invariant-of-self : goal.invariant-of-self
-invariant-of-self c =
+pub invariant_of-self : goal.invariant_of-self
+invariant_of-self c =
     let d = c.args.self.now in
-    let l : c.args.s < 8 = set_below d.settings c.args.s d.eight (sym c.is-set.ensures ∙ c.if-is-set.true) in
+    let l : c.args.s < 8 = set_below d.settings c.args.s d.eight (sym c.is_set.ensures ∙ c.if-is_set.true) in
     let n = d.eight in
-    (ap length c.put-trim.ensures ∙ length-set _ _ _ ∙ d.eight, (∥∥₁_map d.lawful (λ r. draft-layer (drafted d) r _ c.args.s _ (omega arith) refl c.put-trim.ensures), tt))
+    (ap length c.put_trim.ensures ∙ length-set _ _ _ ∙ d.eight, (∥∥₁_map d.lawful (λ r. draft-layer (drafted d) r _ c.args.s _ (omega arith) refl c.put_trim.ensures), tt))
 
-pub returns-then-not-has-trim : goal.returns-then-not-has-trim
-returns-then-not-has-trim c =
+pub returns-then-not-has_trim : goal.returns-then-not-has_trim
+returns-then-not-has_trim c =
     let d = c.args.self.now in
-    let l : c.args.s < 8 = set_below d.settings c.args.s d.eight (sym c.is-set.ensures ∙ c.if-is-set.true) in
+    let l : c.args.s < 8 = set_below d.settings c.args.s d.eight (sym c.is_set.ensures ∙ c.if-is_set.true) in
     let n = d.eight in
-    record { fits = search rules; after = after-trim (drafted d) c.args.s (omega arith) _ c.args.trim.gain c.put-trim.ensures }
+    record { fits = search rules; after = after-trim (drafted d) c.args.s (omega arith) _ c.args.trim.gain c.put_trim.ensures }

@@ -1,6 +1,9 @@
-use Rattle.std.proofs.Common.{refl}
-use Rattle.session.proofs.Drafting.{draft-fresh}
+use Rattle.std.proofs.Common.{replicate, sym, refl, subst, ap₂}
+use Rattle.session.proofs.Drafting.{draft_nothing}
 use Rattle.session.proofs.sessions.drafts.Draft.new.Goals as goal
+use Rattle.session.specs.Held.{unset}
+use Rattle.session.specs.Lawful.{LawfulDraft}
 
-pub invariant-of-result : goal.invariant-of-result
-invariant-of-result c = (refl, (∣ draft-fresh _ refl _ _ c.new.ensures.items c.new-2.ensures.items ∣₁, tt))
+pub invariant_of-result : goal.invariant_of-result
+invariant_of-result c =
+    (refl, (∣ subst LawfulDraft (sym (ap₂ (λ n l. record { rate = 0; plan = record { nodes = n; lines = l }; settings = replicate 8 unset }) c.new.ensures.items c.new-2.ensures.items)) draft_nothing ∣₁, tt))

@@ -4,7 +4,7 @@ use Rattle.session.proofs.Drafting.{draft-rate}
 use Rattle.session.proofs.sessions.drafts.Draft.set_rate.Goals as goal
 use Rattle.session.specs.Drafts.{drafted}
 
-pub invariant-of-self : goal.invariant-of-self
-invariant-of-self c =
+pub invariant_of-self : goal.invariant_of-self
+invariant_of-self c =
     let d = c.args.self.now in
     (d.eight, (∥∥₁_map d.lawful (λ r. draft-rate (drafted d) r c.args.rate (omega arith) (omega arith)), tt))

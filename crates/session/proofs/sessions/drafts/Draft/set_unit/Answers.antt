@@ -7,18 +7,18 @@ use Rattle.session.specs.Drafts.{drafted}
 use Rattle.session.specs.Held.{suits}
 use Rattle.std.proofs.lemmas.List.{length-set}
 
-pub invariant-of-self : goal.invariant-of-self
-invariant-of-self c =
+pub invariant_of-self : goal.invariant_of-self
+invariant_of-self c =
     let d = c.args.self.now in
-    let f : suits c.args.s c.args.kind ≡ true = sym (same_units c.args.s c.args.kind) ∙ sym c.is-for.ensures ∙ c.if-is-for.true in
+    let f : suits c.args.s c.args.kind ≡ true = sym (same_units c.args.s c.args.kind) ∙ sym c.is_for.ensures ∙ c.if-is_for.true in
     let l : c.args.s < 8 = below_eight c.args.s c.args.kind f in
     let n = d.eight in
-    (ap length c.put-kind.ensures ∙ length-set _ _ _ ∙ d.eight, (∥∥₁_map d.lawful (λ r. draft-kind (drafted d) r _ c.args.s c.args.kind (omega arith) f c.put-kind.ensures), tt))
+    (ap length c.put_kind.ensures ∙ length-set _ _ _ ∙ d.eight, (∥∥₁_map d.lawful (λ r. draft-kind (drafted d) r _ c.args.s c.args.kind (omega arith) f c.put_kind.ensures), tt))
 
-pub returns-then-not-is-set : goal.returns-then-not-is-set
-returns-then-not-is-set c =
+pub returns-then-not-is_set : goal.returns-then-not-is_set
+returns-then-not-is_set c =
     let d = c.args.self.now in
-    let f : suits c.args.s c.args.kind ≡ true = sym (same_units c.args.s c.args.kind) ∙ sym c.is-for.ensures ∙ c.if-is-for.true in
+    let f : suits c.args.s c.args.kind ≡ true = sym (same_units c.args.s c.args.kind) ∙ sym c.is_for.ensures ∙ c.if-is_for.true in
     let l : c.args.s < 8 = below_eight c.args.s c.args.kind f in
     let n = d.eight in
-    record { fits = search rules; after = after-kind (drafted d) c.args.s (omega arith) _ c.args.kind c.put-kind.ensures }
+    record { fits = search rules; after = after-kind (drafted d) c.args.s (omega arith) _ c.args.kind c.put_kind.ensures }

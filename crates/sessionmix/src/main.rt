@@ -1,0 +1,84 @@
+// Mixes a session: its text comes on standard input, its tracks from track0.wav to track7.wav in the working folder, or
+// from the click reel where none of them is there. The mix goes to mix.wav, and its frames are listed.
+#![tactic(auto)]
+
+mod output;
+mod playing;
+mod stops;
+mod tracks;
+
+use crate::playing::mix;
+use crate::stops::Stop;
+use crate::tracks::{TrackFiles, read_tracks};
+use anyhow::anyhow;
+use faults::MixFault;
+use frames::refusals::Fault;
+use reels::clicks::Clicks;
+use session::sessions::Session;
+use std::env;
+use std::io::Read;
+use text::reader::read;
+use wave::reel::WaveReel;
+use words::faults::ReadFault;
+
+fn read_session(rt: &HostRuntime, session: &mut Session) -> Result<(), Stop> {
+    let mut text = Vec::new(rt.alloc());
+    match rt.stdin().read_to_end(&mut text) {
+        Ok(_) => {}
+        Err(e) => return Err(Stop::Failed(e.into())),
+    }
+    match read(&text, session, rt.alloc()) {
+        Ok(()) => Ok(()),
+        Err(ReadFault::NoMemory) => Err(Stop::Failed("no memory for the session".into())),
+        Err(fault) => Err(Stop::Refused(fault.into())),
+    }
+}
+
+fn open<'a>(session: &Session, files: &'a TrackFiles) -> Result<WaveReel<'a>, MixFault> {
+    Ok(WaveReel::open(session, files.bytes(), files.parts())?)
+}
+
+fn run(rt: &HostRuntime, progress: bool) -> Result<(), Stop> {
+    let mut session = Session::empty(rt.alloc());
+    read_session(rt, &mut session)?;
+    match read_tracks(rt)? {
+        Some(files) => {
+            let reel = open(&session, &files)?;
+            mix(rt, &session, &reel, progress)
+        }
+        None => mix(rt, &session, &Clicks, progress),
+    }
+}
+
+// Whether progress is asked for.
+fn asked(rt: &HostRuntime) -> anyhow::Result<bool> {
+    let mut args = env::args(rt)?;
+    let _ = args.next();
+    match args.next() {
+        Some(arg) => {
+            if arg.as_str() == "--progress" {
+                Ok(true)
+            } else {
+                Err(anyhow!("the only argument is --progress"))
+            }
+        }
+        None => Ok(false),
+    }
+}
+
+fn told(rt: &HostRuntime) -> anyhow::Result<()> {
+    let progress = asked(rt)?;
+    match run(rt, progress) {
+        Ok(()) => Ok(()),
+        Err(Stop::Failed(e)) => Err(e),
+        Err(Stop::Refused(fault)) => {
+            let refusal = fault.refusal();
+            println!(rt; "{refusal}")?;
+            Ok(())
+        }
+    }
+}
+
+fn main(rt: HostRuntime) -> anyhow::Result<()> {
+    told(&rt)
+}

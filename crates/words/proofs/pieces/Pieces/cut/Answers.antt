@@ -1,9 +1,0 @@
-use Rattle.std.proofs.Common.{refl, arith}
-use Rattle.std.proofs.lemmas.List.{length-drop, length-take}
-use Rattle.words.proofs.Cutting.{pieces_step}
-use Rattle.words.proofs.pieces.Pieces.cut.Goals as goal
-
-pub returns : goal.returns
-returns c =
-    let f = c.find-end.ensures in
-    record { bytes = refl; mark = refl; cut = pieces_step c.args.self.now _ c.find-end.result refl refl c.requires f.value refl; at = simp (length-take, length-drop) (omega arith) }

@@ -1,6 +1,0 @@
-use Rattle.std.proofs.Common.{refl}
-use Rattle.wave.proofs.Accepting.{accepted_exactly, first_is_first}
-use Rattle.worked.proofs.files.proved.accepted.Goals as goal
-
-pub returns : goal.returns
-returns c = (refl, (accepted_exactly, first_is_first))

@@ -1,6 +1,0 @@
-use Rattle.std.proofs.Common.{refl}
-use Rattle.wave.proofs.Reading.{files_read_back, round_trip}
-use Rattle.worked.proofs.files.proved.read_back.Goals as goal
-
-pub returns : goal.returns
-returns c = (refl, (files_read_back, round_trip))

@@ -1,6 +1,0 @@
-use Rattle.std.proofs.Common.{refl}
-use Rattle.patch.proofs.Working.{worked}
-use Rattle.worked.proofs.placing.proved.examples.Goals as goal
-
-pub returns : goal.returns
-returns c = (refl, worked)

@@ -1,6 +1,0 @@
-use Rattle.std.proofs.Common.{refl}
-use Rattle.patch.proofs.Sweeping.{one_sweep}
-use Rattle.worked.proofs.placing.proved.one_sweep.Goals as goal
-
-pub returns : goal.returns
-returns g c = (refl, one_sweep _)

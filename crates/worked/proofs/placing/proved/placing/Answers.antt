@@ -1,6 +1,0 @@
-use Rattle.std.proofs.Common.{refl}
-use Rattle.patch.proofs.Placed.{one_order, ordered_is_placed, placed_is_ordered}
-use Rattle.worked.proofs.placing.proved.placing.Goals as goal
-
-pub returns : goal.returns
-returns c = (refl, (one_order, (placed_is_ordered, ordered_is_placed)))
