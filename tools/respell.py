@@ -14,7 +14,7 @@ import sys
 
 ROOT = os.getcwd()
 DECLARES = re.compile(r"^((?:abbrev |unfoldable |pub )*)(?:(record|data) )?([^\s(){}:\[\];,.«»\"|@=]+) *(?=[:({]|\s+where\b)")
-FIELD = re.compile(r"^ +(?:pub )?([^\s(){}:\[\];,.«»\"|@=]+) :")
+FIELD = re.compile(r"^ +(?:abbrev |unfoldable |pub )*([^\s(){}:\[\];,.«»\"|@=]+) :")
 WORD = re.compile(r"\"(?:[^\"\\]|\\.)*\"|[^\s(){}\[\];,.«»\"|@=]+|.", re.S)
 
 
@@ -51,10 +51,10 @@ def own_names():
                 if "-" in name and not re.search(r": *goal\." + re.escape(name) + r"\b", line):
                     names.add(name)
                 continue
-            if inside:
-                found = FIELD.match(line)
-                if found and "-" in found.group(1):
-                    names.add(found.group(1))
+            found = FIELD.match(line)
+            if found and "-" in found.group(1):
+                names.add(found.group(1))
+                if inside:
                     fields.add(found.group(1))
     return {n for n in names if re.match(r"[^\W\d]", n)}, fields
 

@@ -11,7 +11,7 @@ fn later(a: u8, b: u8) -> u8
 
 // How late the latest of a rack's units is; 0 without units.
 pub fn latest_unit<R: Rack>(rack: &R) -> u8
-    ensures { result ≡ greatest (λ m. m.late) (units rack.now) }
+    ensures { result ≡ greatest (λ m. m.late) (R.units rack.now) }
 {
     let mut latest = 0;
     for s in 0..rack.count() {

@@ -6,8 +6,8 @@ use crate::bytes::all_digits;
 
 // The number that at most six digits write.
 fn value(digits: &[u8]) -> u32
-    requires digits_value { all_digits digits.now ≡ true }
-    requires digits_len_bound { length digits.now ≤ 6 }
+    requires digits { all_digits digits.now ≡ true }
+    requires short { length digits.now ≤ 6 }
     ensures { result ≡ read_on 0 digits.now }
 {
     let mut n = 0u32;

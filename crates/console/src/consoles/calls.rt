@@ -39,9 +39,9 @@ impl Console {
         rack: &mut R,
         tape: &mut [Frame],
     ) -> Result<(), ConsoleFault>
-        ensures promise { Started session.now (point self.old (units rack.old) tape.old) (point self.new (units rack.new) tape.new) result }
-        ensures beginning { result ≡ Ok tt → (reel : Tracks) → Claim reel (point self.new (units rack.new) tape.new) [] }
-        ensures history { (reel : Tracks) (heard : List Frame) → History reel (point self.old (units rack.old) tape.old) heard → Claim reel (point self.new (units rack.new) tape.new) (by_answer result [] heard) }
+        ensures promise { Started session.now (point self.old (R.units rack.old) tape.old) (point self.new (R.units rack.new) tape.new) result }
+        ensures beginning { result ≡ Ok tt → (reel : Tracks) → Claim reel (point self.new (R.units rack.new) tape.new) [] }
+        ensures history { (reel : Tracks) (heard : List Frame) → History reel (point self.old (R.units rack.old) tape.old) heard → Claim reel (point self.new (R.units rack.new) tape.new) (by_answer result [] heard) }
     {
         self.begin(session, rack, tape)
     }
@@ -54,16 +54,16 @@ impl Console {
         tape: &mut [Frame],
         out: &mut [Frame],
     ) -> Result<(), ConsoleFault>
-        ensures promise { Played (tracks reel.now) (point self.old (units rack.old) tape.old) (point self.new (units rack.new) tape.new) out.old out.new result }
-        ensures history { (heard : List Frame) → History (tracks reel.now) (point self.old (units rack.old) tape.old) heard → Claim (tracks reel.now) (point self.new (units rack.new) tape.new) (by_answer result (heard ++ out.new) heard) }
+        ensures promise { Played (L.tracks reel.now) (point self.old (R.units rack.old) tape.old) (point self.new (R.units rack.new) tape.new) out.old out.new result }
+        ensures history { (heard : List Frame) → History (L.tracks reel.now) (point self.old (R.units rack.old) tape.old) heard → Claim (L.tracks reel.now) (point self.new (R.units rack.new) tape.new) (by_answer result (heard ++ out.new) heard) }
     {
         self.go_on(rack, reel, tape, out)
     }
 
     // Goes back to the beginning.
     pub fn rewind<R: Rack>(&mut self, rack: &mut R, tape: &mut [Frame]) -> Result<(), ConsoleFault>
-        ensures promise { Rewound (point self.old (units rack.old) tape.old) (point self.new (units rack.new) tape.new) result }
-        ensures history { (reel : Tracks) (heard : List Frame) → History reel (point self.old (units rack.old) tape.old) heard → Claim reel (point self.new (units rack.new) tape.new) (by_answer result [] heard) }
+        ensures promise { Rewound (point self.old (R.units rack.old) tape.old) (point self.new (R.units rack.new) tape.new) result }
+        ensures history { (reel : Tracks) (heard : List Frame) → History reel (point self.old (R.units rack.old) tape.old) heard → Claim reel (point self.new (R.units rack.new) tape.new) (by_answer result [] heard) }
     {
         self.go_back(rack, tape)
     }

@@ -32,7 +32,7 @@ fn hush(tape: &mut [Frame])
 // The rack rests, and the tape is silent.
 fn lay<R: Rack>(rack: &mut R, tape: &mut [Frame])
     requires { length tape.old ≡ 16384 }
-    ensures rack { units rack.new ≡ map rested (units rack.old) }
+    ensures rack { R.units rack.new ≡ map rested (R.units rack.old) }
     ensures tape { tape.new ≡ silent_tape }
 {
     rack.rest();
@@ -47,9 +47,9 @@ impl Console {
         rack: &mut R,
         tape: &mut [Frame],
     ) -> Result<(), ConsoleFault>
-        ensures answer { result ≡ start_answer (held session.now).plan (units rack.old) tape.old }
-        ensures console { MatchResult result (λ _. (console_plan self.new ≡ (held session.now).plan) × OurPatch (held session.now).plan (units rack.old) (console_patch self.new) × (self.new.position ≡ 0)) (λ _. self.new ≡ self.old) }
-        ensures rack { units rack.new ≡ by_answer result (map rested (units rack.old)) (units rack.old) }
+        ensures answer { result ≡ start_answer (held session.now).plan (R.units rack.old) tape.old }
+        ensures console { MatchResult result (λ _. (console_plan self.new ≡ (held session.now).plan) × OurPatch (held session.now).plan (R.units rack.old) (console_patch self.new) × (self.new.position ≡ 0)) (λ _. self.new ≡ self.old) }
+        ensures rack { R.units rack.new ≡ by_answer result (map rested (R.units rack.old)) (R.units rack.old) }
         ensures tape { tape.new ≡ by_answer result silent_tape tape.old }
     {
         let desk = Desk::new(session, rack)?;
@@ -71,8 +71,8 @@ impl Console {
         ensures answer { result ≡ play_answer self.old tape.old (length out.old) }
         ensures desk { self.new.desk ≡ self.old.desk }
         ensures position { self.new.position ≡ self.old.position + by_answer result (length out.old) 0 }
-        ensures deck { deck (units rack.new) tape.new ≡ by_answer result (after_frames (console_plan self.old) (ordered_nodes (console_patch self.old)) (delay_of (console_patch self.old)) (tracks reel.now) (length out.old) self.old.position (deck (units rack.old) tape.old)) (deck (units rack.old) tape.old) }
-        ensures out { out.new ≡ by_answer result (frames_out (console_plan self.old) (ordered_nodes (console_patch self.old)) (delay_of (console_patch self.old)) (tracks reel.now) (length out.old) self.old.position (deck (units rack.old) tape.old)) out.old }
+        ensures deck { deck (R.units rack.new) tape.new ≡ by_answer result (after_frames (console_plan self.old) (ordered_nodes (console_patch self.old)) (delay_of (console_patch self.old)) (L.tracks reel.now) (length out.old) self.old.position (deck (R.units rack.old) tape.old)) (deck (R.units rack.old) tape.old) }
+        ensures out { out.new ≡ by_answer result (frames_out (console_plan self.old) (ordered_nodes (console_patch self.old)) (delay_of (console_patch self.old)) (L.tracks reel.now) (length out.old) self.old.position (deck (R.units rack.old) tape.old)) out.old }
     {
         self.check_play(tape, out.len())?;
         self.desk.fill(rack, reel, tape, out, self.position);
@@ -89,7 +89,7 @@ impl Console {
         ensures answer { result ≡ rewind_answer self.old tape.old }
         ensures desk { self.new.desk ≡ self.old.desk }
         ensures position { self.new.position ≡ by_answer result 0 self.old.position }
-        ensures rack { units rack.new ≡ by_answer result (map rested (units rack.old)) (units rack.old) }
+        ensures rack { R.units rack.new ≡ by_answer result (map rested (R.units rack.old)) (R.units rack.old) }
         ensures tape { tape.new ≡ by_answer result silent_tape tape.old }
     {
         self.check_rewind(tape)?;

@@ -24,8 +24,8 @@ pub(crate) fn place(v: u8, n: u32, delay: u16) -> usize
 
 // A node's unit, if it has one, steps on what the node hears.
 fn through<R: Rack>(rack: &mut R, node: Node, heard: Frame) -> Frame
-    ensures value { result ≡ given (units rack.old) node.unit heard }
-    ensures after { units rack.new ≡ moved (units rack.old) node.unit heard }
+    ensures value { result ≡ given (R.units rack.old) node.unit heard }
+    ensures after { R.units rack.new ≡ moved (R.units rack.old) node.unit heard }
 {
     match node.unit {
         Some(s) => rack.step(s, heard),
@@ -78,7 +78,7 @@ impl Desk {
     // What node `v` hears at frame `n`.
     fn hears<L: Reel>(&self, reel: &L, tape: &[Frame], n: u32, v: u8) -> Frame
         requires { (v < self.now.count) × (length tape.now ≡ 16384) }
-        ensures { result ≡ hears (desk_plan self.now) (delay_of self.now.patch) (tracks reel.now) tape.now n v }
+        ensures { result ≡ hears (desk_plan self.now) (delay_of self.now.patch) (L.tracks reel.now) tape.now n v }
     {
         match self.node(v).source {
             Source::Track(track) => reel.frame(track, n),
@@ -89,7 +89,7 @@ impl Desk {
     // The work on node `v` at frame `n`.
     fn play_node<R: Rack, L: Reel>(&self, rack: &mut R, reel: &L, tape: &mut [Frame], n: u32, v: u8)
         requires { (v < self.now.count) × (length tape.old ≡ 16384) }
-        ensures { deck (units rack.new) tape.new ≡ node_work (desk_plan self.now) (delay_of self.now.patch) (tracks reel.now) n (deck (units rack.old) tape.old) v }
+        ensures { deck (R.units rack.new) tape.new ≡ node_work (desk_plan self.now) (delay_of self.now.patch) (L.tracks reel.now) n (deck (R.units rack.old) tape.old) v }
     {
         let heard = self.hears(reel, tape, n, v);
         let given = through(rack, self.node(v), heard);
@@ -99,7 +99,7 @@ impl Desk {
     // The work on frame `n`, on each node in the order placed.
     fn play_frame<R: Rack, L: Reel>(&self, rack: &mut R, reel: &L, tape: &mut [Frame], n: u32)
         requires { length tape.old ≡ 16384 }
-        ensures { deck (units rack.new) tape.new ≡ frame_work (desk_plan self.now) (ordered_nodes self.now.patch) (delay_of self.now.patch) (tracks reel.now) n (deck (units rack.old) tape.old) }
+        ensures { deck (R.units rack.new) tape.new ≡ frame_work (desk_plan self.now) (ordered_nodes self.now.patch) (delay_of self.now.patch) (L.tracks reel.now) n (deck (R.units rack.old) tape.old) }
     {
         for v in self.patch.order() {
             self.play_node(rack, reel, tape, n, *v);
@@ -117,7 +117,7 @@ impl Desk {
         k: u32,
     )
         requires { (length tape.old ≡ 16384) × ((k < length out.old) × (n + k < 4294967296)) }
-        ensures deck { deck (units rack.new) tape.new ≡ frame_work (desk_plan self.now) (ordered_nodes self.now.patch) (delay_of self.now.patch) (tracks reel.now) (n + k) (deck (units rack.old) tape.old) }
+        ensures deck { deck (R.units rack.new) tape.new ≡ frame_work (desk_plan self.now) (ordered_nodes self.now.patch) (delay_of self.now.patch) (L.tracks reel.now) (n + k) (deck (R.units rack.old) tape.old) }
         ensures out { out.new ≡ slice_set out.old k (on_tape tape.new 0 (pos (n + k))) }
     {
         self.play_frame(rack, reel, tape, n + k);
@@ -134,8 +134,8 @@ impl Desk {
         n: u32,
     )
         requires { (length tape.old ≡ 16384) × (n + length out.old ≤ 1073741824) }
-        ensures deck { deck (units rack.new) tape.new ≡ after_frames (desk_plan self.now) (ordered_nodes self.now.patch) (delay_of self.now.patch) (tracks reel.now) (length out.old) n (deck (units rack.old) tape.old) }
-        ensures out { out.new ≡ frames_out (desk_plan self.now) (ordered_nodes self.now.patch) (delay_of self.now.patch) (tracks reel.now) (length out.old) n (deck (units rack.old) tape.old) }
+        ensures deck { deck (R.units rack.new) tape.new ≡ after_frames (desk_plan self.now) (ordered_nodes self.now.patch) (delay_of self.now.patch) (L.tracks reel.now) (length out.old) n (deck (R.units rack.old) tape.old) }
+        ensures out { out.new ≡ frames_out (desk_plan self.now) (ordered_nodes self.now.patch) (delay_of self.now.patch) (L.tracks reel.now) (length out.old) n (deck (R.units rack.old) tape.old) }
     {
         for k in 0..out.len() as u32 {
             self.fill_one(rack, reel, tape, out, n, k);

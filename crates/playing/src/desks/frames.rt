@@ -23,8 +23,8 @@ fn place(v: u8, n: u32, delay: u16) -> usize
 
 // A node's unit, if it has one, steps on what the node hears.
 fn through<R: Rack>(rack: &mut R, node: Node, heard: Frame) -> Frame
-    ensures value { result ≡ given (units rack.old) node.unit heard }
-    ensures after { units rack.new ≡ moved (units rack.old) node.unit heard }
+    ensures value { result ≡ given (R.units rack.old) node.unit heard }
+    ensures after { R.units rack.new ≡ moved (R.units rack.old) node.unit heard }
 {
     match node.unit {
         Some(s) => rack.step(s, heard),
@@ -78,7 +78,7 @@ impl Desk {
     // What node `v` hears at frame `n`.
     fn hears<L: Reel>(&self, reel: &L, tape: &[Frame], n: u32, v: u8) -> Frame
         requires { (v < self.now.count) × (length tape.now ≡ 16384) }
-        ensures { result ≡ hears (desk_plan self.now) (desk_delay self.now) (tracks reel.now) tape.now n v }
+        ensures { result ≡ hears (desk_plan self.now) (desk_delay self.now) (L.tracks reel.now) tape.now n v }
     {
         match self.node(v).source {
             Source::Track(track) => reel.frame(track, n),
@@ -89,7 +89,7 @@ impl Desk {
     // The work on node `v` at frame `n`.
     fn play_node<R: Rack, L: Reel>(&self, rack: &mut R, reel: &L, tape: &mut [Frame], n: u32, v: u8)
         requires { (v < self.now.count) × (length tape.old ≡ 16384) }
-        ensures { deck (units rack.new) tape.new ≡ node_work (desk_plan self.now) (desk_delay self.now) (tracks reel.now) n (deck (units rack.old) tape.old) v }
+        ensures { deck (R.units rack.new) tape.new ≡ node_work (desk_plan self.now) (desk_delay self.now) (L.tracks reel.now) n (deck (R.units rack.old) tape.old) v }
     {
         let heard = self.hears(reel, tape, n, v);
         let given = through(rack, self.node(v), heard);
@@ -106,7 +106,7 @@ impl Desk {
         n: u32,
     ) -> bool
         ensures room { result ≡ (length tape.old == 16384) }
-        ensures work { deck (units rack.new) tape.new ≡ (if result then frame_work (desk_plan self.now) (desk_order self.now) (desk_delay self.now) (tracks reel.now) n (deck (units rack.old) tape.old) else deck (units rack.old) tape.old) }
+        ensures work { deck (R.units rack.new) tape.new ≡ (if result then frame_work (desk_plan self.now) (desk_order self.now) (desk_delay self.now) (L.tracks reel.now) n (deck (R.units rack.old) tape.old) else deck (R.units rack.old) tape.old) }
     {
         if tape.len() != 16384 {
             return false;
@@ -118,7 +118,7 @@ impl Desk {
     // The work on frame `n`, on each node in the order placed.
     fn play_nodes<R: Rack, L: Reel>(&self, rack: &mut R, reel: &L, tape: &mut [Frame], n: u32)
         requires { length tape.old ≡ 16384 }
-        ensures { deck (units rack.new) tape.new ≡ frame_work (desk_plan self.now) (desk_order self.now) (desk_delay self.now) (tracks reel.now) n (deck (units rack.old) tape.old) }
+        ensures { deck (R.units rack.new) tape.new ≡ frame_work (desk_plan self.now) (desk_order self.now) (desk_delay self.now) (L.tracks reel.now) n (deck (R.units rack.old) tape.old) }
     {
         for k in 0..self.count {
             self.play_node(rack, reel, tape, n, self.order[k]);

@@ -4,13 +4,13 @@ use Rattle.words.proofs.numbers.value.Goals as goal
 use Rattle.words.specs.Numbers.{read_on}
 
 pub overflow_sub-d : goal.overflow_sub-d
-overflow_sub-d c = (digit_at c.args.digits.now c.loop-d.d-index c.requires.0 c.loop-d-test.true).0
+overflow_sub-d c = (digit_at c.args.digits.now c.loop-d.d-index c.requires.digits c.loop-d-test.true).0
 
 pub loop-d-preserved : goal.loop-d-preserved
 loop-d-preserved c =
     let ds = c.args.digits.now in
     let i = c.loop-d.d-index in
-    let d = digit_at ds i c.requires.0 c.loop-d-test.true in
+    let d = digit_at ds i c.requires.digits c.loop-d-test.true in
     let t = ten_times i in
     let b = c.loop-d.invariant.1 in
     let f = c.from.ensures in
