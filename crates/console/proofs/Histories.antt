@@ -38,8 +38,8 @@ module _ (reel : Tracks) where
       (subst (λ l. Stands (desk_plan d) d.patch reel n l y) (sym c)
       (subst (λ y. Stands (desk_plan d) d.patch reel n k y) (sym f) s)))
 
-  after-start : (session : Session) (here there : Point) → RackLaws here.units → Started session here there (Ok tt) → StandsAt reel there []
-  after-start session here there laws s =
+  after_start : (session : Session) (here there : Point) → RackLaws here.units → Started session here there (Ok tt) → StandsAt reel there []
+  after_start session here there laws s =
       let c = there.console in
       let b = s.console in
       subst (λ p. Stands p (console_patch c) reel c.position (deck there.units there.tape) []) (sym b.0)
@@ -49,35 +49,35 @@ module _ (reel : Tracks) where
 
   restarted : (session : Session) (here there : Point) (heard : List Frame) (r : Result Unit ConsoleFault)
       → StandsAt reel here heard → Started session here there r → StandsAt reel there (by_answer r [] heard)
-  restarted session here there heard (Ok done) s p = after-start session here there s.follows.laws p
+  restarted session here there heard (Ok done) s p = after_start session here there s.follows.laws p
   restarted session here there heard (Err fault) s p =
       carried here.console.desk there.console.desk here.console.position there.console.position (deck here.units here.tape) (deck there.units there.tape) heard heard
       (ap (λ (c : Console). c.desk) p.console) (ap (λ (c : Console). c.position) p.console) (ap₂ deck p.units p.tape) refl s
 
-  after-play : (here there : Point) (before after heard : List Frame) (r : Result Unit ConsoleFault)
+  after_play : (here there : Point) (before after heard : List Frame) (r : Result Unit ConsoleFault)
       → StandsAt reel here heard → Played reel here there before after r → StandsAt reel there (by_answer r (heard ++ after) heard)
-  after-play here there before after heard (Ok done) s p =
+  after_play here there before after heard (Ok done) s p =
       carried here.console.desk there.console.desk (here.console.position + length before) there.console.position
       (deck_after reel here (length before)) (deck there.units there.tape) (heard ++ next_frames reel here (length before)) (heard ++ after)
       p.desk p.position p.deck (ap (λ l. heard ++ l) p.out) (plays_on _ _ reel _ _ heard s (length before))
-  after-play here there before after heard (Err fault) s p =
+  after_play here there before after heard (Err fault) s p =
       carried here.console.desk there.console.desk here.console.position there.console.position (deck here.units here.tape) (deck there.units there.tape) heard heard
       p.desk (omega (arith, p.position)) p.deck refl s
 
-  after-rewind : (here there : Point) (heard : List Frame) (r : Result Unit ConsoleFault)
+  after_rewind : (here there : Point) (heard : List Frame) (r : Result Unit ConsoleFault)
       → StandsAt reel here heard → Rewound here there r → StandsAt reel there (by_answer r [] heard)
-  after-rewind here there heard (Ok done) s p =
+  after_rewind here there heard (Ok done) s p =
       carried here.console.desk there.console.desk 0 there.console.position (deck (map rested here.units) silent_tape) (deck there.units there.tape) [] []
       p.desk p.position (ap₂ deck p.units p.tape) refl (rewinds _ _ reel _ _ heard s)
-  after-rewind here there heard (Err fault) s p =
+  after_rewind here there heard (Err fault) s p =
       carried here.console.desk there.console.desk here.console.position there.console.position (deck here.units here.tape) (deck there.units there.tape) heard heard
       p.desk p.position (ap₂ deck p.units p.tape) refl s
 
   holds : (here : Point) (heard : List Frame) → History reel here heard → StandsAt reel here heard
-  holds _ _ (begun session here there laws s) = after-start session here there laws s
+  holds _ _ (begun session here there laws s) = after_start session here there laws s
   holds _ _ (started session here there heard r h s) = restarted session here there heard r (holds here heard h) s
-  holds _ _ (played here there before after heard r h p) = after-play here there before after heard r (holds here heard h) p
-  holds _ _ (rewound here there heard r h p) = after-rewind here there heard r (holds here heard h) p
+  holds _ _ (played here there before after heard r h p) = after_play here there before after heard r (holds here heard h) p
+  holds _ _ (rewound here there heard r h p) = after_rewind here there heard r (holds here heard h) p
   holds _ _ (told here heard v r h p) = holds here heard h
 
   pub keeps : (here : Point) (heard : List Frame) → History reel here heard → Claim reel here heard

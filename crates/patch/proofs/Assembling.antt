@@ -1,10 +1,10 @@
 -- What is found along the order of a plan is our patch.
 use Rattle.std.proofs.Common.{◌≡◌, ℕ, ◌+◌, ◌-◌, ◌<◌, ◌≤◌, Bool, true, false, not, eqb, List, length, get_or, take, Some, None, Option, sym, refl, ap, ◌∙◌, subst, subst₂, arith}
 use Rattle.frames.specs.declared.samples.Frame.{Frame}
-use Rattle.patch.proofs.Feeding.{feeders-are-chains}
+use Rattle.patch.proofs.Feeding.{feeders_are_chains}
 use Rattle.patch.proofs.Finding.{none_passes}
 use Rattle.patch.proofs.Joining.{swept_same}
-use Rattle.patch.proofs.Lateness.{our-latenesses}
+use Rattle.patch.proofs.Lateness.{our_latenesses}
 use Rattle.patch.proofs.Placed.{along_order, placed_is_ordered, sound}
 use Rattle.patch.proofs.Standing.{all_standing, at_place, place_inside}
 use Rattle.patch.specs.Due.{due, first_due, lowest_lacking}
@@ -81,20 +81,20 @@ module _ (p : Plan) (rack : List (Meaning Frame)) (r : Patch) (units : List ℕ)
 
   late_is : OurLatenesses p rack (late_of r)
   late_is =
-      our-latenesses p rack units (place_in (ordered_nodes r)) (late_of r) rules laws ordered each
+      our_latenesses p rack units (place_in (ordered_nodes r)) (late_of r) rules laws ordered each
       (sweep_of_plan (lateness_kind units) p rules placed (ordered_nodes r) in_order r.late late-along)
 
-  late-at : (v : ℕ) → v < length p.nodes → late_of r v ≡ get_or r.late v 0
-  late-at v l = get_or-take (length (ordered_nodes r)) r.late v 0 (omega (arith, count))
+  late_at : (v : ℕ) → v < length p.nodes → late_of r v ≡ get_or r.late v 0
+  late_at v l = get_or-take (length (ordered_nodes r)) r.late v 0 (omega (arith, count))
 
-  held-is : (i : ℕ) → i < length p.lines → delay_of r i ≡ our_delay p (late_of r) i
-  held-is i b =
+  held_is : (i : ℕ) → i < length p.lines → delay_of r i ≡ our_delay p (late_of r) i
+  held_is i b =
       omega (
         arith,
         get_or-take r.lines r.held i 0 (omega (arith, lines_are)),
         held-are i b,
-        late-at (line p i).end (rules.ends i b),
-        late-at (line p i).start (rules.starts i b),
+        late_at (line p i).end (rules.ends i b),
+        late_at (line p i).start (rules.starts i b),
         late_is (line p i).end (rules.ends i b),
         each (line p i).end (rules.ends i b),
       )
@@ -102,7 +102,7 @@ module _ (p : Plan) (rack : List (Meaning Frame)) (r : Patch) (units : List ℕ)
   aligned : Aligned p rack (delay_of r) (latest_start p (late_of r))
   aligned =
       let ours = (ours_is_aligned p rack (late_of r) rules late_is).0 in
-      record { meets = λ i b. omega (arith, ours.meets i b, held-is i b); alone = ours.alone }
+      record { meets = λ i b. omega (arith, ours.meets i b, held_is i b); alone = ours.alone }
 
   pub assembled : OurPatch p rack r
   assembled = record {
@@ -114,16 +114,16 @@ module _ (p : Plan) (rack : List (Meaning Frame)) (r : Patch) (units : List ℕ)
     each_held = length-take-le r.lines r.held (omega (arith, r.full.2, r.full.3)) ∙ lines_are;
     arranged = arranged;
     late = late_is;
-    held = held-is;
+    held = held_is;
     short = λ i b.
-        omega (arith, held-is i b, delays_stay_short p rack (place_in (ordered_nodes r)) (late_of r) rules laws ordered late_is i b);
+        omega (arith, held_is i b, delays_stay_short p rack (place_in (ordered_nodes r)) (late_of r) rules laws ordered late_is i b);
     aligned = aligned;
     under = (ours_is_aligned p rack (late_of r) rules late_is).1;
     least = ours_is_least p rack (place_in (ordered_nodes r)) (late_of r) rules ordered late_is;
     mix = λ reel x y delay arrival rival ideal under n.
         aligned_is_ideal p rack reel (place_in (ordered_nodes r)) rules laws ordered delay arrival rival x y ideal under 0 n (some_node p rack clear);
     fed =
-        feeders-are-chains p (place_in (ordered_nodes r)) (feeders_of r) rules ordered
+        feeders_are_chains p (place_in (ordered_nodes r)) (feeders_of r) rules ordered
         (sweep_of_plan feeders_kind p rules placed (ordered_nodes r) in_order r.fed fed_along);
   }
 

@@ -7,7 +7,7 @@ use Rattle.patch.specs.Flows.{feeders_kind, in_set}
 use Rattle.patch.specs.Sweeps.{Swept, joined, joined_on}
 use Rattle.session.specs.Plan.{KeepsRules, Plan, line, lines_into}
 use Rattle.signals.proofs.Lines.{all_lines, each_line}
-use Rattle.signals.proofs.Order.{from-starts}
+use Rattle.signals.proofs.Order.{from_starts}
 use Rattle.signals.specs.Patches.{Ordered}
 use Rattle.std.proofs.lemmas.Nat.{div_below, or_shr, pow-add, pow_below, pow_pos, shl-shr}
 use Rattle.std.proofs.lemmas.Bool.{both_ways, cases_eq, cases_lt, or_cases, or_left, or_right}
@@ -91,10 +91,10 @@ module _ (p : Plan) (place fed : ℕ → ℕ) (rules : KeepsRules p) (order : Or
         | inr ne ↦ absurd (both_ways (in_set (2 ^ v) w) (in_other v w ne) t)
       ]
 
-  chain-from : (v : ℕ) → v < length p.nodes → (w : ℕ) → in_set (fed v) w ≡ true → Chain p w v
+  chain_from : (v : ℕ) → v < length p.nodes → (w : ℕ) → in_set (fed v) w ≡ true → Chain p w v
   unfolding heard
-  chain-from =
-      from-starts p place rules order (λ v. (w : ℕ) → in_set (fed v) w ≡ true → Chain p w v) (λ v l before w t.
+  chain_from =
+      from_starts p place rules order (λ v. (w : ℕ) → in_set (fed v) w ≡ true → Chain p w v) (λ v l before w t.
       elim (or_cases (in_set (heard v) w) (in_set (2 ^ v) w) (sym (either v w l) ∙ t)) [
         | inl a ↦
             sets_only (Chain p w v) w (λ i. fed (line p i).start) (lines_into p v) a
@@ -102,14 +102,14 @@ module _ (p : Plan) (place fed : ℕ → ℕ) (rules : KeepsRules p) (order : Or
         | inr b ↦ itself v w b
       ])
 
-  chain-to : (w : ℕ) {v : ℕ} → v < length p.nodes → Chain p w v → in_set (fed v) w ≡ true
+  chain_to : (w : ℕ) {v : ℕ} → v < length p.nodes → Chain p w v → in_set (fed v) w ≡ true
   unfolding heard
-  chain-to w l here = either w w l ∙ or_right (in_set (heard w) w) (in_set (2 ^ w) w) (in_itself w)
-  chain-to w l (along {v} i b e chain) =
+  chain_to w l here = either w w l ∙ or_right (in_set (heard w) w) (in_set (2 ^ w) w) (in_itself w)
+  chain_to w l (along {v} i b e chain) =
       either v w l
       ∙ or_left (in_set (heard v) w) (in_set (2 ^ v) w)
       (each_line p v (λ i. in_set (fed (line p i).start) w ≡ true → in_set (heard v) w ≡ true)
-      (sets_each w (λ i. fed (line p i).start) (lines_into p v)) i b e (chain-to w (rules.starts i b) chain))
+      (sets_each w (λ i. fed (line p i).start) (lines_into p v)) i b e (chain_to w (rules.starts i b) chain))
 
-  pub feeders-are-chains : (v w : ℕ) → v < length p.nodes → Decides (in_set (fed v) w) (Chain p w v)
-  feeders-are-chains v w l = (chain-from v l w, chain-to w l)
+  pub feeders_are_chains : (v w : ℕ) → v < length p.nodes → Decides (in_set (fed v) w) (Chain p w v)
+  feeders_are_chains v w l = (chain_from v l w, chain_to w l)

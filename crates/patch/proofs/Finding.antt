@@ -57,11 +57,11 @@ by_lowest test n P without found = go (first_tells test 0 n n (omega arith))
 pub lowest_inside : (test : ℕ → Bool) (n v : ℕ) → lowest test n ≡ Some v → (v < n) × (test v ≡ true) × ((w : ℕ) → w < v → test w ≡ false)
 lowest_inside test n v =
     by_lowest test n (λ o. o ≡ Some v → (v < n) × (test v ≡ true) × ((w : ℕ) → w < v → test w ≡ false))
-    (λ _ e. absurd (none-some e))
+    (λ _ e. absurd (none_some e))
     (λ u b t h e. let same : u ≡ v = cc in (omega arith, ap test (sym same) ∙ t, λ w l. h w (omega arith)))
   where
-    none-some : None ≡ Some v → ⊥
-    none-some e = let z : ◌≡◌ {A = ℕ} 0 1 = cc in omega arith
+    none_some : None ≡ Some v → ⊥
+    none_some e = let z : ◌≡◌ {A = ℕ} 0 1 = cc in omega arith
 
 pub none_passes : (test : ℕ → Bool) (n : ℕ) → lowest test n ≡ None → (w : ℕ) → w < n → test w ≡ false
 none_passes test n =

@@ -21,8 +21,8 @@ module _ (p : Plan) (order : List ℕ) (v : ℕ) where
       and_from (not (stands order v)) (every (λ i. stands order (line p i).start) (lines_into p v)) (not_from_false (stands order v) f)
       ((decides_every (λ i. stands order (line p i).start) (lines_into p v)).1 (all_lines p v (λ i. stands order (line p i).start ≡ true) h))
 
-  pub follows-parts : can_follow p order v ≡ true → (stands order v ≡ false) × HeardFrom p order v
-  follows-parts h =
+  pub follows_parts : can_follow p order v ≡ true → (stands order v ≡ false) × HeardFrom p order v
+  follows_parts h =
       let parts = and_parts (not (stands order v)) (every (λ i. stands order (line p i).start) (lines_into p v)) h in (
         not-true (stands order v) parts.0,
         each_line p v (λ i. stands order (line p i).start ≡ true)
@@ -32,17 +32,17 @@ module _ (p : Plan) (order : List ℕ) (v : ℕ) where
   cannot : (can_follow p order v ≡ true → ⊥) → can_follow p order v ≡ false
   cannot h = elim (cases_Bool (can_follow p order v)) [ inl t ↦ absurd (h t) | inr f ↦ f ]
 
-  pub not-again : stands order v ≡ true → can_follow p order v ≡ false
-  not-again t = cannot (λ h. both_ways (stands order v) (follows-parts h).0 t)
+  pub not_again : stands order v ≡ true → can_follow p order v ≡ false
+  not_again t = cannot (λ h. both_ways (stands order v) (follows_parts h).0 t)
 
-  cannot-follow : (Follows p order v → ⊥) → can_follow p order v ≡ false
-  cannot-follow h = cannot (λ t. let parts = follows-parts t in h (record { new = parts.0; hears = parts.1 }))
+  cannot_follow : (Follows p order v → ⊥) → can_follow p order v ≡ false
+  cannot_follow h = cannot (λ t. let parts = follows_parts t in h (record { new = parts.0; hears = parts.1 }))
 
 -- The lowest node that can follow, by the fact.
 pub next_some : (p : Plan) (order : List ℕ) (n v : ℕ) → (v < n) × Follows p order v × ((w : ℕ) → w < v → Follows p order w → ⊥)
     → lowest (can_follow p order) n ≡ Some v
 next_some p order n v h =
-    lowest_some (can_follow p order) n v h.0 (follows p order v h.1.new h.1.hears) (λ w l. cannot-follow p order w (h.2 w l))
+    lowest_some (can_follow p order) n v h.0 (follows p order v h.1.new h.1.hears) (λ w l. cannot_follow p order w (h.2 w l))
 
 pub next_none : (p : Plan) (order : List ℕ) (n : ℕ) → ((w : ℕ) → w < n → Follows p order w → ⊥) → lowest (can_follow p order) n ≡ None
-next_none p order n h = lowest_none (can_follow p order) n (λ w l. cannot-follow p order w (h w l))
+next_none p order n h = lowest_none (can_follow p order) n (λ w l. cannot_follow p order w (h w l))

@@ -42,8 +42,8 @@ first_inside : (next : ℕ → Option ℕ) (P : ℕ → Type 0) (at : Option ℕ
 first_inside next P at is h all i e = (links_on next P i is (subst (λ a. Links next a is) e h) all).3
 
 module _ {X : Type 0} (kind : Kind X) (lines : List Line) (inputs : Inputs) (values : List X) (v : ℕ) where
-  pub hears-first : Arranges lines inputs → v < 16 → Hearing kind lines inputs values v None (first_into inputs v)
-  hears-first arranges b =
+  pub hears_first : Arranges lines inputs → v < 16 → Hearing kind lines inputs values v None (first_into inputs v)
+  hears_first arranges b =
       let all = all_lines (plan_of [] lines) v (λ i. i < length lines) (λ i l e. l) in (
         first_inside (next_after inputs) (λ i. i < length lines) (first_into inputs v) (lines_into (plan_of [] lines) v) (arranges.linked v b) all,
         (
@@ -54,9 +54,9 @@ module _ {X : Type 0} (kind : Kind X) (lines : List Line) (inputs : Inputs) (val
         ),
       )
 
-  pub hears-on : (heard more : Option X) (at : Option ℕ) (i : ℕ) (x : X) → Hearing kind lines inputs values v heard at → at ≡ Some i
+  pub hears_on : (heard more : Option X) (at : Option ℕ) (i : ℕ) (x : X) → Hearing kind lines inputs values v heard at → at ≡ Some i
       → more ≡ Some x → x ≡ joined_to kind.join heard (value_at kind lines values i) → Hearing kind lines inputs values v more (next_after inputs i)
-  hears-on heard more at i x before e some is =
+  hears_on heard more at i x before e some is =
       let (rest, links, all, same) = before.1 in
       let on = links_on (next_after inputs) (λ i. i < length lines) i rest (subst (λ a. Links (next_after inputs) a rest) e links) all in (
         first_inside (next_after inputs) (λ i. i < length lines) (next_after inputs i) on.0 on.2 on.4,
@@ -69,9 +69,9 @@ module _ {X : Type 0} (kind : Kind X) (lines : List Line) (inputs : Inputs) (val
         ),
       )
 
-  pub hears-all : (heard : Option X) → Hearing kind lines inputs values v heard None
+  pub hears_all : (heard : Option X) → Hearing kind lines inputs values v heard None
       → or_start kind.start heard ≡ joined kind (map (value_at kind lines values) (lines_into (plan_of [] lines) v))
-  hears-all heard h =
+  hears_all heard h =
       let (rest, links, all, same) = h.1 in
       let none = links_end (next_after inputs) rest links in
       ap (or_start kind.start) (ap (λ is. collected_from kind.join heard (map (value_at kind lines values) is)) (sym none) ∙ same)

@@ -6,7 +6,7 @@ use Rattle.patch.specs.Sweeps.{Swept, joined, joined_on}
 use Rattle.racks.specs.Rack.{RackLaws}
 use Rattle.session.specs.Plan.{KeepsRules, Plan, line, lines_into, node}
 use Rattle.signals.proofs.Lines.{EachInto, all_lines, greatest_at_most}
-use Rattle.signals.proofs.Order.{from-starts}
+use Rattle.signals.proofs.Order.{from_starts}
 use Rattle.signals.proofs.Units.{unit_lawful}
 use Rattle.signals.specs.Patches.{Ordered, OurLatenesses, latest_start, unit_late}
 use Rattle.voices.specs.Kinds.{greatest}
@@ -29,8 +29,8 @@ module _ (p : Plan) (rack : List (Meaning Frame)) (units : List ℕ) (place late
     (order : Ordered p place) (each : (v : ℕ) → v < length p.nodes → get_or units v 0 ≡ unit_late rack (node p v).unit)
     (swept : Swept (lateness_kind units) p late) where
   -- What a sweep gives, with the greatest in place of the joined values.
-  by-latest : (v : ℕ) → v < length p.nodes → late v ≡ min (latest_start p late v + unit_late rack (node p v).unit) 65535
-  by-latest v l =
+  by_latest : (v : ℕ) → v < length p.nodes → late v ≡ min (latest_start p late v + unit_late rack (node p v).unit) 65535
+  by_latest v l =
       let latest = joined_greatest units (λ i. late (line p i).start) (lines_into p v) in
       omega (arith, swept v l, each v l)
 
@@ -39,16 +39,16 @@ module _ (p : Plan) (rack : List (Meaning Frame)) (units : List ℕ) (place late
       greatest_at_most (λ i. late (line p i).start) (63 * place v) (lines_into p v)
       (all_lines p v (λ i. late (line p i).start ≤ 63 * place v) (λ i b e. omega (arith, h i b e, order.before i b, ap place e)))
 
-  late-at-most : (v : ℕ) → v < length p.nodes → late v ≤ 63 * (place v + 1)
-  late-at-most = from-starts p place rules order (λ v. late v ≤ 63 * (place v + 1)) (λ v l h.
-      omega (arith, latest_at_most v h, by-latest v l, unit_at_most rack laws (node p v).unit))
+  late_at_most : (v : ℕ) → v < length p.nodes → late v ≤ 63 * (place v + 1)
+  late_at_most = from_starts p place rules order (λ v. late v ≤ 63 * (place v + 1)) (λ v l h.
+      omega (arith, latest_at_most v h, by_latest v l, unit_at_most rack laws (node p v).unit))
 
-  pub our-latenesses : OurLatenesses p rack late
-  our-latenesses v l =
+  pub our_latenesses : OurLatenesses p rack late
+  our_latenesses v l =
       omega (
         arith,
-        by-latest v l,
-        latest_at_most v (λ i b e. late-at-most (line p i).start (rules.starts i b)),
+        by_latest v l,
+        latest_at_most v (λ i b e. late_at_most (line p i).start (rules.starts i b)),
         unit_at_most rack laws (node p v).unit,
         order.inside v l,
         rules.few_nodes,

@@ -75,8 +75,8 @@ module _ (lines : List Line) (fit : Fit lines) (first next : List (Option ℕ)) 
       All-weaker (λ j. i + 1 ≤ j) (λ j. i < j) (λ j h. omega arith) (last_lines (plan_of [] lines) v (i + 1) (length lines - (i + 1)))
       (from_first (λ j. eqb (line (plan_of [] lines) j).end v) (i + 1) (length lines - (i + 1)))
 
-  pub rises-on : Rising next → Rising (set next i (get_or first (line (plan_of [] lines) i).end None))
-  rises-on rising j k l e =
+  pub rises_on : Rising next → Rising (set next i (get_or first (line (plan_of [] lines) i).end None))
+  rises_on rising j k l e =
       elim (cases_eq i j) [
         | inl same ↦
             let here : get_or first (line (plan_of [] lines) i).end None ≡ Some k =
@@ -90,8 +90,8 @@ module _ (lines : List Line) (fit : Fit lines) (first next : List (Option ℕ)) 
         | inr ne ↦ rising j k l (sym (get_or-set_other next i j (get_or first (line (plan_of [] lines) i).end None) None (λ e. ne (sym e))) ∙ e)
       ]
 
-  pub links-more : Linked lines (set first (line (plan_of [] lines) i).end (Some i)) (set next i (get_or first (line (plan_of [] lines) i).end None)) i
-  links-more v b =
+  pub links_more : Linked lines (set first (line (plan_of [] lines) i).end (Some i)) (set next i (get_or first (line (plan_of [] lines) i).end None)) i
+  links_more v b =
       let e = (line (plan_of [] lines) i).end in
       let x = get_or first e None in
       let rest = last_lines (plan_of [] lines) v (i + 1) (length lines - (i + 1)) in

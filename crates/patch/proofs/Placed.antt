@@ -1,13 +1,13 @@
 -- What holds of the order in which nodes are placed.
 use Rattle.std.proofs.Common.{◌≡◌, ℕ, zero, suc, ◌+◌, ◌<◌, ◌≤◌, Bool, true, false, List, [], ◌∷◌, ◌++◌, length, get_or, take, Some, None, Option, sym, refl, ap, ◌∙◌, subst, inl, inr, add-one, arith}
 use Rattle.patch.proofs.Finding.{by_lowest, lowest_none, lowest_some}
-use Rattle.patch.proofs.Following.{follows, follows-parts, not-again}
+use Rattle.patch.proofs.Following.{follows, follows_parts, not_again}
 use Rattle.patch.proofs.Growing.{grown_by, grown_next}
 use Rattle.patch.proofs.Standing.{at_place, inside_stands, none_standing, place_inside, place_new, place_old, standing, standing_all, standing_most, standing_push, stands_other}
 use Rattle.patch.specs.Placing.{FollowsRule, OneOrder, OrderedIsPlaced, Placed, PlacedIsOrdered, can_follow, grown, lowest, order_of, place_in, plan_of, stands}
 use Rattle.patch.specs.Sweeps.{Along}
 use Rattle.session.specs.Plan.{KeepsRules, Plan, line}
-use Rattle.signals.proofs.Order.{from-starts}
+use Rattle.signals.proofs.Order.{from_starts}
 use Rattle.signals.specs.Patches.{Ordered}
 use Rattle.std.proofs.lemmas.List.{get_or_append_left, get_or_push, length_push, take_all, take-append-le, take_at, take_more_same}
 use Rattle.std.proofs.lemmas.Bool.{both_ways, cases_Bool, cases_eq, false≢true}
@@ -30,20 +30,20 @@ sound_none p = record {
 
 module _ (p : Plan) (order : List ℕ) (v : ℕ) (s : Sound p order) (inside : v < length p.nodes) (next : can_follow p order v ≡ true) where
   new : stands order v ≡ false
-  new = (follows-parts p order v next).0
+  new = (follows_parts p order v next).0
 
   old : (w : ℕ) → (v ≡ w → ⊥) → stands (order ++ v ∷ []) w ≡ true → stands order w ≡ true
   old w ne h = sym (stands_other order v w ne) ∙ h
 
-  push-declared : (w : ℕ) → stands (order ++ v ∷ []) w ≡ true → w < length p.nodes
-  push-declared w h = elim (cases_eq v w) [ inl e ↦ omega arith | inr ne ↦ s.declared w (old w ne h) ]
+  push_declared : (w : ℕ) → stands (order ++ v ∷ []) w ≡ true → w < length p.nodes
+  push_declared w h = elim (cases_eq v w) [ inl e ↦ omega arith | inr ne ↦ s.declared w (old w ne h) ]
 
-  push-before : (i : ℕ) → i < length p.lines → stands (order ++ v ∷ []) (line p i).end ≡ true
+  push_before : (i : ℕ) → i < length p.lines → stands (order ++ v ∷ []) (line p i).end ≡ true
       → place_in (order ++ v ∷ []) (line p i).start < place_in (order ++ v ∷ []) (line p i).end
-  push-before i b h =
+  push_before i b h =
       elim (cases_eq v (line p i).end) [
         | inl e ↦
-            let heard = (follows-parts p order v next).1 i b (sym e) in
+            let heard = (follows_parts p order v next).1 i b (sym e) in
             omega (
               arith,
               place_old order v (line p i).start heard,
@@ -57,8 +57,8 @@ module _ (p : Plan) (order : List ℕ) (v : ℕ) (s : Sound p order) (inside : v
             omega (arith, place_old order v (line p i).start started, place_old order v (line p i).end ended)
       ]
 
-  push-once : (k : ℕ) → k < length (order ++ v ∷ []) → place_in (order ++ v ∷ []) (get_or (order ++ v ∷ []) k 0) ≡ k
-  push-once k l =
+  push_once : (k : ℕ) → k < length (order ++ v ∷ []) → place_in (order ++ v ∷ []) (get_or (order ++ v ∷ []) k 0) ≡ k
+  push_once k l =
       elim (cases_eq k (length order)) [
         | inl e ↦ ap (place_in (order ++ v ∷ [])) (get_or_push order v 0 k (sym e)) ∙ (place_new order v new ∙ sym e)
         | inr ne ↦
@@ -67,37 +67,37 @@ module _ (p : Plan) (order : List ℕ) (v : ℕ) (s : Sound p order) (inside : v
             ∙ (place_old order v (get_or order k 0) (inside_stands order (get_or order k 0) (omega (arith, s.once k b))) ∙ s.once k b)
       ]
 
-  sound-push : Sound p (order ++ v ∷ [])
-  sound-push = record {
-    declared = push-declared;
-    before = push-before;
-    once = push-once;
+  sound_push : Sound p (order ++ v ∷ [])
+  sound_push = record {
+    declared = push_declared;
+    before = push_before;
+    once = push_once;
     counted = omega (arith, standing_push order v (length p.nodes) inside new, length_push order v, s.counted);
   }
 
 module _ (p : Plan) where
-  grown-sound : (m : ℕ) (order : List ℕ) → Sound p order → Sound p (grown p m order)
-  grown-sound zero order s = s
-  grown-sound (suc m) order s =
+  grown_sound : (m : ℕ) (order : List ℕ) → Sound p order → Sound p (grown p m order)
+  grown_sound zero order s = s
+  grown_sound (suc m) order s =
       subst (Sound p) (sym (grown_next p m order))
       (by_lowest (can_follow p order) (length p.nodes) (λ o. Sound p (grown_by p m order o)) (λ _. s)
-      (λ v b t _. grown-sound m (order ++ v ∷ []) (sound-push p order v s b t)))
+      (λ v b t _. grown_sound m (order ++ v ∷ []) (sound_push p order v s b t)))
 
-  grown-done : (m : ℕ) (order : List ℕ) → Sound p order → length p.nodes ≤ m + length order
+  grown_done : (m : ℕ) (order : List ℕ) → Sound p order → length p.nodes ≤ m + length order
       → (v : ℕ) → v < length p.nodes → can_follow p (grown p m order) v ≡ false
-  grown-done zero order s whole = λ v l.
-      not-again p order v (standing_all order (length p.nodes) (omega (arith, s.counted)) v l)
-  grown-done (suc m) order s whole =
+  grown_done zero order s whole = λ v l.
+      not_again p order v (standing_all order (length p.nodes) (omega (arith, s.counted)) v l)
+  grown_done (suc m) order s whole =
       subst (λ xs. (v : ℕ) → v < length p.nodes → can_follow p xs v ≡ false) (sym (grown_next p m order))
       (by_lowest (can_follow p order) (length p.nodes)
       (λ o. (v : ℕ) → v < length p.nodes → can_follow p (grown_by p m order o) v ≡ false) (λ none. none)
-      (λ v b t _. grown-done m (order ++ v ∷ []) (sound-push p order v s b t) (omega (arith, length_push order v))))
+      (λ v b t _. grown_done m (order ++ v ∷ []) (sound_push p order v s b t) (omega (arith, length_push order v))))
 
   pub sound : Sound p (order_of p)
-  sound = grown-sound (length p.nodes) [] (sound_none p)
+  sound = grown_sound (length p.nodes) [] (sound_none p)
 
   pub done : (v : ℕ) → v < length p.nodes → can_follow p (order_of p) v ≡ false
-  done = grown-done (length p.nodes) [] (sound_none p) (omega arith)
+  done = grown_done (length p.nodes) [] (sound_none p) (omega arith)
 
   pub few : length (order_of p) ≤ length p.nodes
   few = omega (arith, sound.counted, standing_most (order_of p) (length p.nodes))
@@ -174,7 +174,7 @@ placed_is_ordered p rules all = record {
 
 pub ordered_is_placed : OrderedIsPlaced
 ordered_is_placed p place rules ordered =
-    from-starts p place rules ordered (λ v. stands (order_of p) v ≡ true) (λ v l before.
+    from_starts p place rules ordered (λ v. stands (order_of p) v ≡ true) (λ v l before.
     elim (cases_Bool (stands (order_of p) v)) [
       | inl t ↦ t
       | inr f ↦ absurd (both_ways (can_follow p (order_of p) v) (done p v l) (follows p (order_of p) v f before))

@@ -5,7 +5,7 @@ use Rattle.patch.specs.Placing.{place_in, plan_of}
 use Rattle.patch.specs.Sweeps.{Along, Kind, OneSweep, Swept_to, by_node, swept}
 use Rattle.session.specs.Plan.{line}
 use Rattle.session.specs.declared.nodes.Line.{Line}
-use Rattle.signals.proofs.Order.{from-starts}
+use Rattle.signals.proofs.Order.{from_starts}
 use Rattle.std.proofs.lemmas.List.{get_or-set_other, get_or-set_same}
 use Rattle.std.proofs.lemmas.Bool.{cases_eq}
 
@@ -23,9 +23,9 @@ module _ {X : Type 0} (kind : Kind X) (lines : List Line) (order : List ℕ) (al
       swept_same kind (plan_of [] lines) (by_node kind (set values (get_or order k 0) x)) (by_node kind values) (get_or order j 0)
       (λ i b e. kept (line (plan_of [] lines) i).start (omega (arith, along.after j i (omega arith) b e)))
 
-  pub sweeps-on : Swept_to kind lines order k (by_node kind values) → x ≡ swept kind (plan_of [] lines) (by_node kind values) (get_or order k 0)
+  pub sweeps_on : Swept_to kind lines order k (by_node kind values) → x ≡ swept kind (plan_of [] lines) (by_node kind values) (get_or order k 0)
       → Swept_to kind lines order (k + 1) (by_node kind (set values (get_or order k 0) x))
-  sweeps-on before here j l =
+  sweeps_on before here j l =
       elim (cases_eq k j) [
         | inl e ↦ subst (λ j. by_node kind (set values (get_or order k 0) x) (get_or order j 0)
             ≡ swept kind (plan_of [] lines) (by_node kind (set values (get_or order k 0) x)) (get_or order j 0)) e
@@ -35,4 +35,4 @@ module _ {X : Type 0} (kind : Kind X) (lines : List Line) (order : List ℕ) (al
 
 pub one_sweep : (X : Type 0) → OneSweep X
 one_sweep X kind p place rules order a b s t =
-    from-starts p place rules order (λ v. a v ≡ b v) (λ v l before. s v l ∙ (swept_same kind p a b v before ∙ sym (t v l)))
+    from_starts p place rules order (λ v. a v ≡ b v) (λ v l before. s v l ∙ (swept_same kind p a b v before ∙ sym (t v l)))

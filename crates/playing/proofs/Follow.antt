@@ -3,7 +3,7 @@ use Rattle.std.proofs.Common.{◌≡◌, ℕ, zero, suc, ◌+◌, ◌-◌, ◌<�
 use Rattle.frames.specs.Buses.{bus}
 use Rattle.frames.specs.Samples.{silence}
 use Rattle.frames.specs.declared.samples.Frame.{Frame}
-use Rattle.playing.proofs.Hearing.{answers-last, HasHeard, heard_more, heard_nothing, stepped_lawful, unit_moved, unit_unmoved}
+use Rattle.playing.proofs.Hearing.{answers_last, HasHeard, heard_more, heard_nothing, stepped_lawful, unit_moved, unit_unmoved}
 use Rattle.playing.proofs.Slots.{other_frame, other_node, slot_inside}
 use Rattle.playing.specs.Tape.{on_tape, slot}
 use Rattle.playing.specs.Theorems.{AtRest, InOrder}
@@ -63,16 +63,16 @@ module _ (p : Plan) (rack : List (Meaning Frame)) (reel : Tracks) (delay : ℕ �
     (starts : (i : ℕ) → i < length p.lines → (line p i).end ≡ v → upto (line p i).start ≡ suc n)
     (d : Deck) (f : Follows p rack reel delay x upto d) where
   -- it hears what comes in under the patch
-  from-source : (source : Source) → input p reel delay (on_tape d.tape) v source (pos n) ≡ input p reel delay x v source (pos n)
-  from-source (Track track) = refl
-  from-source Bus =
+  from_source : (source : Source) → input p reel delay (on_tape d.tape) v source (pos n) ≡ input p reel delay x v source (pos n)
+  from_source (Track track) = refl
+  from_source Bus =
       ap bus (map_same (brought p delay (on_tape d.tape) (pos n)) (brought p delay x (pos n)) (lines_into p v)
       (all_lines p v (λ i. brought p delay (on_tape d.tape) (pos n) i ≡ brought p delay x (pos n) i)
       (λ i b e. ap (λ frame. record { frame = frame; gain = (line p i).gain })
       (let s = starts i b e in let k = short i b in f.holds (line p i).start (pos n -ℤ pos (delay i)) (rules.starts i b) (omega (arith, ints)) (omega (arith, ints))))))
 
-  hears-right : hears p delay reel d.tape n v ≡ incoming p rack reel delay x v (pos n)
-  hears-right = from-source (node p v).source
+  hears_right : hears p delay reel d.tape n v ≡ incoming p rack reel delay x v (pos n)
+  hears_right = from_source (node p v).source
 
   so_far : List Frame
   so_far = span (incoming p rack reel delay x v) (pos 0) n
@@ -81,20 +81,20 @@ module _ (p : Plan) (rack : List (Meaning Frame)) (reel : Tracks) (delay : ℕ �
   unfolding so_far
   one_further =
       let e : pos 0 +ℤ pos n ≡ pos n = omega (arith, ints) in
-      ap (λ g. span (incoming p rack reel delay x v) (pos 0) n ++ g ∷ []) (hears-right ∙ ap (incoming p rack reel delay x v) (sym e))
+      ap (λ g. span (incoming p rack reel delay x v) (pos 0) n ++ g ∷ []) (hears_right ∙ ap (incoming p rack reel delay x v) (sym e))
       ∙ sym (span_push (incoming p rack reel delay x v) (pos 0) n)
 
-  heard-so-far : (s : ℕ) → (node p v).unit ≡ Some s → HasHeard (unit d.units s) so_far
+  heard_so_far : (s : ℕ) → (node p v).unit ≡ Some s → HasHeard (unit d.units s) so_far
   unfolding so_far
-  heard-so-far s e = rw at at (f.heard v s l e)
+  heard_so_far s e = rw at at (f.heard v s l e)
 
   -- it gives its frame under the patch
-  gives-right : (o : Option ℕ) → (node p v).unit ≡ o → given d.units o (hears p delay reel d.tape n v) ≡ x v (pos n)
-  gives-right None e = hears-right ∙ sym (rw e at (run.follows v (pos n) l))
-  gives-right (Some s) e =
+  gives_right : (o : Option ℕ) → (node p v).unit ≡ o → given d.units o (hears p delay reel d.tape n v) ≡ x v (pos n)
+  gives_right None e = hears_right ∙ sym (rw e at (run.follows v (pos n) l))
+  gives_right (Some s) e =
       let g = hears p delay reel d.tape n v in
       let made = rw e at (run.follows v (pos n) l) in
-      answers-last (unit d.units s) (unit_lawful d.units f.laws s) so_far (heard-so-far s e) g
+      answers_last (unit d.units s) (unit_lawful d.units f.laws s) so_far (heard_so_far s e) g
       ∙ ap last_frame (ap (λ voice. voice (so_far ++ g ∷ [])) (f.voices s) ∙ ap (unit rack s).voice one_further)
       ∙ sym (made (pos 0) n (omega (arith, ints)) (quiet v l))
 
@@ -104,10 +104,10 @@ module _ (p : Plan) (rack : List (Meaning Frame)) (reel : Tracks) (delay : ℕ �
   inside : slot v (pos n) < length d.tape
   inside = let k = slot_inside v (pos n) (let few = rules.few_nodes in omega arith) in omega (arith, f.long)
 
-  tape-holds : (w : ℕ) (m : ℤ) → w < length p.nodes → m <ℤ pos (one_more upto v w) → pos (one_more upto v w) ≤ℤ (m +ℤ pos 1024)
+  tape_holds : (w : ℕ) (m : ℤ) → w < length p.nodes → m <ℤ pos (one_more upto v w) → pos (one_more upto v w) ≤ℤ (m +ℤ pos 1024)
       → on_tape (set d.tape (slot v (pos n)) written) w m ≡ x w m
   unfolding written
-  tape-holds w m k a b = elim (cases_eq w v) [ inl e ↦ here e | inr ne ↦ there ne ]
+  tape_holds w m k a b = elim (cases_eq w v) [ inl e ↦ here e | inr ne ↦ there ne ]
     where
       there : w ≢ v → on_tape (set d.tape (slot v (pos n)) written) w m ≡ x w m
       there ne =
@@ -119,7 +119,7 @@ module _ (p : Plan) (rack : List (Meaning Frame)) (reel : Tracks) (delay : ℕ �
       newest e =
           ap (λ j. on_tape (set d.tape (slot v (pos n)) written) v j) e
           ∙ get_or-set_same d.tape (slot v (pos n)) written silence inside
-          ∙ gives-right (node p v).unit refl ∙ ap (x v) (sym e)
+          ∙ gives_right (node p v).unit refl ∙ ap (x v) (sym e)
 
       older : m <ℤ pos n → pos (suc n) ≤ℤ (m +ℤ pos 1024) → on_tape (set d.tape (slot v (pos n)) written) v m ≡ x v m
       older c g =
@@ -134,9 +134,9 @@ module _ (p : Plan) (rack : List (Meaning Frame)) (reel : Tracks) (delay : ℕ �
           subst (λ j. on_tape (set d.tape (slot v (pos n)) written) j m ≡ x j m) (sym e)
           (by_lt_z m (pos n) (λ c. older c b') (λ c. newest (omega (arith, ints))))
 
-  units-laws : (o : Option ℕ) (g : Frame) → RackLaws (moved d.units o g)
-  units-laws None g = f.laws
-  units-laws (Some s) g = stepped_lawful d.units s g f.laws
+  units_laws : (o : Option ℕ) (g : Frame) → RackLaws (moved d.units o g)
+  units_laws None g = f.laws
+  units_laws (Some s) g = stepped_lawful d.units s g f.laws
 
   -- what does not change when a unit steps
   same_of : {A : Type 0} (part : Meaning Frame → A) → ((m : Meaning Frame) (g : Frame) → part (heard_by m g) ≡ part m)
@@ -154,28 +154,28 @@ module _ (p : Plan) (rack : List (Meaning Frame)) (reel : Tracks) (delay : ℕ �
   some_none : (t : ℕ) (o : Option ℕ) → o ≡ None → o ≡ Some t → ⊥
   some_none t o a b = let z : ◌≡◌ {A = ℕ} 0 1 = cc in omega arith
 
-  own-heard : (o : Option ℕ) → (node p v).unit ≡ o → (t : ℕ) → (node p v).unit ≡ Some t
+  own_heard : (o : Option ℕ) → (node p v).unit ≡ o → (t : ℕ) → (node p v).unit ≡ Some t
       → HasHeard (unit (moved d.units o (hears p delay reel d.tape n v)) t) (span (incoming p rack reel delay x v) (pos 0) (suc n))
-  own-heard None e t i = absurd (some_none t (node p v).unit e i)
-  own-heard (Some s) e t i =
+  own_heard None e t i = absurd (some_none t (node p v).unit e i)
+  own_heard (Some s) e t i =
       let g = hears p delay reel d.tape n v in
       let same : t ≡ s = some_same s t (node p v).unit e i in
-      let more = heard_more (unit d.units s) (unit_lawful d.units f.laws s) so_far (heard-so-far s e) g in
+      let more = heard_more (unit d.units s) (unit_lawful d.units f.laws s) so_far (heard_so_far s e) g in
       subst (λ j. HasHeard (unit (stepped d.units s g) j) (span (incoming p rack reel delay x v) (pos 0) (suc n))) (sym same)
       (subst (λ m. HasHeard m (span (incoming p rack reel delay x v) (pos 0) (suc n))) (sym (unit_moved d.units s g))
       (subst (HasHeard (heard_by (unit d.units s) g)) one_further more))
 
-  other-heard : (o : Option ℕ) → (node p v).unit ≡ o → (w t : ℕ) → w < length p.nodes → w ≢ v → (node p w).unit ≡ Some t
+  other_heard : (o : Option ℕ) → (node p v).unit ≡ o → (w t : ℕ) → w < length p.nodes → w ≢ v → (node p w).unit ≡ Some t
       → HasHeard (unit (moved d.units o (hears p delay reel d.tape n v)) t) (span (incoming p rack reel delay x w) (pos 0) (upto w))
-  other-heard None e w t k ne i = f.heard w t k i
-  other-heard (Some s) e w t k ne i =
+  other_heard None e w t k ne i = f.heard w t k i
+  other_heard (Some s) e w t k ne i =
       let g = hears p delay reel d.tape n v in
       let apart : t ≢ s = λ q. ne (rules.one_node w v s k l (i ∙ ap Some q) e) in
       subst (λ m. HasHeard m (span (incoming p rack reel delay x w) (pos 0) (upto w))) (sym (unit_unmoved d.units s t g apart)) (f.heard w t k i)
 
-  units-heard : (w t : ℕ) → w < length p.nodes → (node p w).unit ≡ Some t
+  units_heard : (w t : ℕ) → w < length p.nodes → (node p w).unit ≡ Some t
       → HasHeard (unit (moved d.units (node p v).unit (hears p delay reel d.tape n v)) t) (span (incoming p rack reel delay x w) (pos 0) (one_more upto v w))
-  units-heard w t k i = elim (cases_eq w v) [ inl q ↦ own q | inr ne ↦ other ne ]
+  units_heard w t k i = elim (cases_eq w v) [ inl q ↦ own q | inr ne ↦ other ne ]
     where
       own : w ≡ v → HasHeard (unit (moved d.units (node p v).unit (hears p delay reel d.tape n v)) t) (span (incoming p rack reel delay x w) (pos 0) (one_more upto v w))
       own q =
@@ -183,21 +183,21 @@ module _ (p : Plan) (rack : List (Meaning Frame)) (reel : Tracks) (delay : ℕ �
           let j : (node p v).unit ≡ Some t = ap (λ y. (node p y).unit) (sym q) ∙ i in
           subst (λ y. HasHeard (unit (moved d.units (node p v).unit (hears p delay reel d.tape n v)) t) (span (incoming p rack reel delay x w) (pos 0) y)) (sym u)
           (subst (λ y. HasHeard (unit (moved d.units (node p v).unit (hears p delay reel d.tape n v)) t) (span (incoming p rack reel delay x y) (pos 0) (suc n))) (sym q)
-          (own-heard (node p v).unit refl t j))
+          (own_heard (node p v).unit refl t j))
 
       other : w ≢ v → HasHeard (unit (moved d.units (node p v).unit (hears p delay reel d.tape n v)) t) (span (incoming p rack reel delay x w) (pos 0) (one_more upto v w))
       other ne =
           let u : one_more upto v w ≡ upto w = cond-false (eqb w v) (suc (upto w)) (upto w) (ne_eqb w v ne) in
           subst (λ y. HasHeard (unit (moved d.units (node p v).unit (hears p delay reel d.tape n v)) t) (span (incoming p rack reel delay x w) (pos 0) y)) (sym u)
-          (other-heard (node p v).unit refl w t k ne i)
+          (other_heard (node p v).unit refl w t k ne i)
 
-  pub node-follows : Follows p rack reel delay x (one_more upto v) (node_work p delay reel n d v)
+  pub node_follows : Follows p rack reel delay x (one_more upto v) (node_work p delay reel n d v)
   unfolding written
-  node-follows = record {
+  node_follows = record {
     long = length-set d.tape (slot v (pos n)) _ ∙ f.long;
-    holds = tape-holds;
-    laws = units-laws (node p v).unit (hears p delay reel d.tape n v);
+    holds = tape_holds;
+    laws = units_laws (node p v).unit (hears p delay reel d.tape n v);
     voices = λ s. same_of (λ m. m.voice) (λ m g. refl) (node p v).unit (hears p delay reel d.tape n v) s ∙ f.voices s;
     lates = λ s. same_of (λ m. m.late) (λ m g. refl) (node p v).unit (hears p delay reel d.tape n v) s ∙ f.lates s;
-    heard = units-heard;
+    heard = units_heard;
   }

@@ -38,8 +38,8 @@ take_over (x ∷ xs) ys k =
 
 module _ (m : Meaning Frame) (law : Lawful silence m) (fs : List Frame) (heard : HasHeard m fs) (f : Frame) where
   -- its answer is the last frame of its voice over what it has heard then
-  pub answers-last : answer m f ≡ last_frame (m.voice (fs ++ f ∷ []))
-  answers-last =
+  pub answers_last : answer m f ≡ last_frame (m.voice (fs ++ f ∷ []))
+  answers_last =
       sym (ap last_frame (heard (f ∷ []) ∙ ap (λ l. m.voice fs ++ l) (one_frame (m.present (f ∷ [])) (law.present_length (f ∷ [])))) ∙ last_push (m.voice fs) (answer m f))
 
   first_alike : (z : List Frame) → take 1 (m.present (f ∷ z)) ≡ m.present (f ∷ [])

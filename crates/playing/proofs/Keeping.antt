@@ -147,38 +147,38 @@ module _ (p : Plan) (r : Patch) (reel : Tracks) (n : ℕ) (d : Deck) (heard : Li
   arrival = latest_start p (late_of r)
 
   -- the units are as late as at start
-  as-late : (o : Option ℕ) → unit_late d.units o ≡ unit_late s.rack o
-  as-late None = refl
-  as-late (Some u) = s.follows.lates u
+  as_late : (o : Option ℕ) → unit_late d.units o ≡ unit_late s.rack o
+  as_late None = refl
+  as_late (Some u) = s.follows.lates u
 
   -- and give what they gave
-  as-given : (o : Option ℕ) (x : Signal Frame) (m : ℤ) (f : Frame) → Gives s.rack (λ _. 0) o x m f → Gives d.units (λ _. 0) o x m f
-  as-given None x m f g = g
-  as-given (Some u) x m f g = λ b k e q. g b k e q ∙ ap (λ voice. last_frame (voice (span x b (suc k)))) (sym (s.follows.voices u))
+  as_given : (o : Option ℕ) (x : Signal Frame) (m : ℤ) (f : Frame) → Gives s.rack (λ _. 0) o x m f → Gives d.units (λ _. 0) o x m f
+  as_given None x m f g = g
+  as_given (Some u) x m f g = λ b k e q. g b k e q ∙ ap (λ voice. last_frame (voice (span x b (suc k)))) (sym (s.follows.voices u))
 
   -- so they give the same signals under the patch
-  under-now : Under p d.units reel (delay_of r) s.y
-  under-now = record { begins = s.under.begins; follows = λ v m l. as-given (node p v).unit _ m _ (s.under.follows v m l) }
+  under_now : Under p d.units reel (delay_of r) s.y
+  under_now = record { begins = s.under.begins; follows = λ v m l. as_given (node p v).unit _ m _ (s.under.follows v m l) }
 
   -- the patch is aligned with them
-  aligned-now : Aligned p d.units (delay_of r) arrival
-  aligned-now = record {
-    meets = λ i b. omega (arith, s.ours.aligned.meets i b, as-late (node p (line p i).start).unit);
+  aligned_now : Aligned p d.units (delay_of r) arrival
+  aligned_now = record {
+    meets = λ i b. omega (arith, s.ours.aligned.meets i b, as_late (node p (line p i).start).unit);
     alone = s.ours.aligned.alone;
   }
 
   -- and its latenesses are those under it
-  late-now : (v : ℕ) → v < length p.nodes → lateness p d.units arrival v ≡ late_of r v
-  late-now v l = omega (arith, s.ours.under v l, as-late (node p v).unit)
+  late_now : (v : ℕ) → v < length p.nodes → lateness p d.units arrival v ≡ late_of r v
+  late_now v l = omega (arith, s.ours.under v l, as_late (node p v).unit)
 
   -- which `lateness` answers
-  answers-now : (v : ℕ) → v < length p.nodes → lateness_answer r v ≡ Ok (lateness p d.units arrival v)
-  answers-now v l = cond-true _ _ _ (lt-ltb v (length (latenesses r)) (omega (arith, s.ours.each_late))) ∙ ap Ok (sym (late-now v l))
+  answers_now : (v : ℕ) → v < length p.nodes → lateness_answer r v ≡ Ok (lateness p d.units arrival v)
+  answers_now v l = cond-true _ _ _ (lt-ltb v (length (latenesses r)) (omega (arith, s.ours.each_late))) ∙ ap Ok (sym (late_now v l))
 
   -- under an aligned patch the output is the mix, later by its lateness there
-  mix-now : (delay other : ℕ → ℕ) → Aligned p d.units delay other → (x y : ℕ → Signal Frame) → Ideal p d.units reel x
+  mix_now : (delay other : ℕ → ℕ) → Aligned p d.units delay other → (x y : ℕ → Signal Frame) → Ideal p d.units reel x
       → Under p d.units reel delay y → (m : ℤ) → y 0 m ≡ x 0 (m -ℤ pos (lateness p d.units other 0))
-  mix-now delay other aligned x y ideal under m =
+  mix_now delay other aligned x y ideal under m =
       aligned_is_ideal p d.units reel (place_in (ordered_nodes r)) s.rules s.follows.laws s.ours.ordered delay other aligned x y ideal under 0 m
       (some_node p s.rack s.ours.clear)
 
@@ -187,25 +187,25 @@ module _ (p : Plan) (r : Patch) (reel : Tracks) (n : ℕ) (d : Deck) (heard : Li
       → Rival p d.units reel x arrival delay other
   rival x ideal delay other aligned = record {
     one = one_under p d.units reel (place_in (ordered_nodes r)) s.rules s.follows.laws s.ours.ordered delay;
-    same_mix = λ y under m. mix-now delay other aligned x y ideal under m;
+    same_mix = λ y under m. mix_now delay other aligned x y ideal under m;
     no_less_late = λ v l.
         omega (
           arith,
-          late-now v l,
+          late_now v l,
           ours_is_least p d.units (place_in (ordered_nodes r)) (late_of r) s.rules s.ours.ordered
-              (λ v l. omega (arith, s.ours.late v l, as-late (node p v).unit)) delay other aligned v l,
+              (λ v l. omega (arith, s.ours.late v l, as_late (node p v).unit)) delay other aligned v l,
         );
   }
 
   -- what was heard is the mix, later
-  heard-mix : (x : ℕ → Signal Frame) → Ideal p d.units reel x
+  heard_mix : (x : ℕ → Signal Frame) → Ideal p d.units reel x
       → heard ≡ span (x 0) (pos 0 -ℤ pos (lateness p d.units arrival 0)) (length heard)
-  heard-mix x ideal =
+  heard_mix x ideal =
       let late = lateness p d.units arrival 0 in
       let long : length heard ≡ n = ap length s.so_far ∙ span_length (s.y 0) (pos 0) n in
       s.so_far
       ∙ span_same (s.y 0) (x 0) (pos 0) (pos 0 -ℤ pos late)
-      (λ j. mix-now (delay_of r) arrival aligned-now x s.y ideal under-now (pos 0 +ℤ pos j) ∙ ap (x 0) (omega (arith, ints))) n
+      (λ j. mix_now (delay_of r) arrival aligned_now x s.y ideal under_now (pos 0 +ℤ pos j) ∙ ap (x 0) (omega (arith, ints))) n
       ∙ ap (span (x 0) (pos 0 -ℤ pos late)) (sym long)
 
   -- The promise.
@@ -217,9 +217,9 @@ module _ (p : Plan) (r : Patch) (reel : Tracks) (n : ℕ) (d : Deck) (heard : Li
         record {
           ideal = one.1;
           only = one.2;
-          aligned = aligned-now;
-          answers = answers-now;
-          mix = heard-mix one.0 one.1;
+          aligned = aligned_now;
+          answers = answers_now;
+          mix = heard_mix one.0 one.1;
           rivals = rival one.0 one.1;
         },
       )

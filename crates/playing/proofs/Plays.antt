@@ -2,7 +2,7 @@
 use Rattle.std.proofs.Common.{◌≡◌, ℕ, zero, suc, ◌+◌, ◌<◌, ◌≤◌, cond, eqb, ltb, ◌≢◌, List, [], ◌∷◌, ◌++◌, length, get_or, replicate, ℤ, pos, ◌+ℤ◌, ◌≤ℤ◌, ◌<ℤ◌, Some, None, fold, Option, sym, refl, ap, ◌∙◌, subst, ap₂, inl, inr, ⊎_elim, arith}
 use Rattle.frames.specs.Samples.{silence}
 use Rattle.frames.specs.declared.samples.Frame.{Frame}
-use Rattle.playing.proofs.Follow.{Follows, follows_same, incoming, node-follows, one_more}
+use Rattle.playing.proofs.Follow.{Follows, follows_same, incoming, node_follows, one_more}
 use Rattle.playing.proofs.Hearing.{heard_nothing}
 use Rattle.playing.proofs.Slots.{slot_inside}
 use Rattle.playing.specs.Tape.{on_tape, silent_tape, slot}
@@ -14,7 +14,7 @@ use Rattle.session.specs.Plan.{KeepsRules, line, lines_into, node, Plan}
 use Rattle.signals.proofs.Inputs.{input_silent, SilentUntil}
 use Rattle.signals.proofs.Lines.{all_lines}
 use Rattle.signals.proofs.Listening.{made_makes, made_silent, makes_same}
-use Rattle.signals.proofs.Order.{from-starts}
+use Rattle.signals.proofs.Order.{from_starts}
 use Rattle.signals.proofs.Units.{unit_lawful}
 use Rattle.signals.specs.Patches.{Ordered}
 use Rattle.signals.specs.Signals.{Gives, input, Signal, SilentBefore, span, Under}
@@ -30,45 +30,45 @@ module _ (p : Plan) (rack : List (Meaning Frame)) (reel : Tracks) (order : List 
   rising = record { inside = λ v l. let s = (ordered.stands v l).0 in omega (arith, ordered.whole); before = ordered.before }
 
   -- before frame 0 a node that hears silence gives silence
-  silent-node : (o : Option ℕ) (y : Signal Frame) → SilentUntil y 0 → (n : ℤ) (f : Frame) → Gives rack (λ _. 0) o y n f → n <ℤ pos 0 → f ≡ silence
-  silent-node None y s n f g h = g ∙ s n h
-  silent-node (Some u) y s n f g h =
+  silent_node : (o : Option ℕ) (y : Signal Frame) → SilentUntil y 0 → (n : ℤ) (f : Frame) → Gives rack (λ _. 0) o y n f → n <ℤ pos 0 → f ≡ silence
+  silent_node None y s n f g h = g ∙ s n h
+  silent_node (Some u) y s n f g h =
       let law = unit_lawful rack laws u in
       let e : n +ℤ pos 0 ≡ n = omega (arith, ints) in
       makes_same silence (unit rack u) y (pos 0) s (n +ℤ pos 0) f _ g (made_makes silence (unit rack u) law y (pos 0) s (n +ℤ pos 0))
       ∙ made_silent silence (unit rack u) law y (pos 0) s (n +ℤ pos 0) (omega (arith, ints))
 
   -- under a patch nothing is heard before frame 0
-  silent-before : (v : ℕ) → v < length p.nodes → SilentUntil (x v) 0
-  silent-before = from-starts p place rules rising (λ v. SilentUntil (x v) 0) (λ v l starts n h.
-      silent-node (node p v).unit (input p reel delay x v (node p v).source)
+  silent_before : (v : ℕ) → v < length p.nodes → SilentUntil (x v) 0
+  silent_before = from_starts p place rules rising (λ v. SilentUntil (x v) 0) (λ v l starts n h.
+      silent_node (node p v).unit (input p reel delay x v (node p v).source)
       (input_silent p reel delay x v 0 (all_lines p v (λ i. SilentUntil (x (line p i).start) 0) starts) (node p v).source)
       n (x v n) (run.follows v n l) h)
 
   quiet : (v : ℕ) → v < length p.nodes → SilentBefore silence (incoming p rack reel delay x v) (pos 0)
   quiet v l =
-      input_silent p reel delay x v 0 (all_lines p v (λ i. SilentUntil (x (line p i).start) 0) (λ i b e. silent-before (line p i).start (rules.starts i b))) (node p v).source
+      input_silent p reel delay x v 0 (all_lines p v (λ i. SilentUntil (x (line p i).start) 0) (λ i b e. silent_before (line p i).start (rules.starts i b))) (node p v).source
 
   -- the nodes with a place below k have played frame n
   reached : ℕ → ℕ → ℕ → ℕ
   reached n k w = cond (ltb (place w) k) (suc n) n
 
-  reached-yes : (n k w : ℕ) → place w < k → reached n k w ≡ suc n
+  reached_yes : (n k w : ℕ) → place w < k → reached n k w ≡ suc n
   unfolding reached
-  reached-yes n k w h = cond-true (ltb (place w) k) (suc n) n (lt-ltb (place w) k h)
+  reached_yes n k w h = cond-true (ltb (place w) k) (suc n) n (lt-ltb (place w) k h)
 
-  reached-not : (n k w : ℕ) → k ≤ place w → reached n k w ≡ n
+  reached_not : (n k w : ℕ) → k ≤ place w → reached n k w ≡ n
   unfolding reached
-  reached-not n k w h = cond-false (ltb (place w) k) (suc n) n (le-ltb (place w) k h)
+  reached_not n k w h = cond-false (ltb (place w) k) (suc n) n (le-ltb (place w) k h)
 
   -- once node v at place k has played, those with a place below k + 1 have
-  reached-next : (n k v w : ℕ) → w < length p.nodes → v ≡ get_or order k 0 → place v ≡ k → one_more (reached n k) v w ≡ reached n (k + 1) w
-  reached-next n k v w l e q = elim (cases_eq w v) [ inl same ↦ own same | inr ne ↦ other ne ]
+  reached_next : (n k v w : ℕ) → w < length p.nodes → v ≡ get_or order k 0 → place v ≡ k → one_more (reached n k) v w ≡ reached n (k + 1) w
+  reached_next n k v w l e q = elim (cases_eq w v) [ inl same ↦ own same | inr ne ↦ other ne ]
     where
       own : w ≡ v → one_more (reached n k) v w ≡ reached n (k + 1) w
       own same =
           let at : place w ≡ k = ap place same ∙ q in
-          cond-true (eqb w v) (suc (reached n k w)) (reached n k w) (eq-eqb w v same) ∙ ap suc (reached-not n k w (omega arith)) ∙ sym (reached-yes n (k + 1) w (omega arith))
+          cond-true (eqb w v) (suc (reached n k w)) (reached n k w) (eq-eqb w v same) ∙ ap suc (reached_not n k w (omega arith)) ∙ sym (reached_yes n (k + 1) w (omega arith))
 
       apart : w ≢ v → place w ≢ k
       apart ne at = ne (sym (ordered.stands w l).1 ∙ ap (λ j. get_or order j 0) at ∙ sym e)
@@ -77,7 +77,7 @@ module _ (p : Plan) (rack : List (Meaning Frame)) (reel : Tracks) (order : List 
       other ne =
           let far : place w ≢ k = apart ne in
           cond-false (eqb w v) (suc (reached n k w)) (reached n k w) (ne_eqb w v ne)
-          ∙ ⊎_elim (λ h. reached-yes n k w h ∙ sym (reached-yes n (k + 1) w (omega arith))) (λ h. reached-not n k w h ∙ sym (reached-not n (k + 1) w (omega arith))) (cases_lt (place w) k)
+          ∙ ⊎_elim (λ h. reached_yes n k w h ∙ sym (reached_yes n (k + 1) w (omega arith))) (λ h. reached_not n k w h ∙ sym (reached_not n (k + 1) w (omega arith))) (cases_lt (place w) k)
 
   -- the nodes of the order from place k on, one after the other
   along : (n : ℕ) (rest : List ℕ) (k : ℕ) (d : Deck) → k + length rest ≡ length order → ((j : ℕ) → j < length rest → get_or rest j 0 ≡ get_or order (k + j) 0)
@@ -89,20 +89,20 @@ module _ (p : Plan) (rack : List (Meaning Frame)) (reel : Tracks) (order : List 
       let own = ordered.once k inside in
       let at : place v ≡ k = ap place here ∙ own.1 in
       let l : v < length p.nodes = subst (λ w. w < length p.nodes) (sym here) own.0 in
-      let next = node-follows p rack reel delay x rules short run quiet n v l (reached n k) (reached-not n k v (omega arith))
-      (λ i b q. reached-yes n k (line p i).start (let before = ordered.before i b in let z : place (line p i).end ≡ k = ap place q ∙ at in omega arith)) d f in
+      let next = node_follows p rack reel delay x rules short run quiet n v l (reached n k) (reached_not n k v (omega arith))
+      (λ i b q. reached_yes n k (line p i).start (let before = ordered.before i b in let z : place (line p i).end ≡ k = ap place q ∙ at in omega arith)) d f in
       subst (λ j. Follows p rack reel delay x (reached n j) (fold (node_work p delay reel n) (node_work p delay reel n d v) vs)) (let z : k + 1 + length vs ≡ k + length (v ∷ vs) = omega arith in z)
       (along n vs (k + 1) (node_work p delay reel n d v) (omega arith)
       (λ j h. same (suc j) (omega arith) ∙ ap (λ i. get_or order i 0) (let z : k + suc j ≡ k + 1 + j = omega arith in z))
-      (follows_same p rack reel delay x (one_more (reached n k) v) (reached n (k + 1)) (node_work p delay reel n d v) (λ w h. reached-next n k v w h here at) next))
+      (follows_same p rack reel delay x (one_more (reached n k) v) (reached n (k + 1)) (node_work p delay reel n d v) (λ w h. reached_next n k v w h here at) next))
 
   -- one frame
-  pub frame-follows : (n : ℕ) (d : Deck) → Follows p rack reel delay x (λ _. n) d → Follows p rack reel delay x (λ _. suc n) (frame_work p order delay reel n d)
-  frame-follows n d f =
+  pub frame_follows : (n : ℕ) (d : Deck) → Follows p rack reel delay x (λ _. n) d → Follows p rack reel delay x (λ _. suc n) (frame_work p order delay reel n d)
+  frame_follows n d f =
       follows_same p rack reel delay x (reached n (0 + length order)) (λ _. suc n) (frame_work p order delay reel n d)
-      (λ w h. reached-yes n (0 + length order) w (let s = (ordered.stands w h).0 in omega arith))
+      (λ w h. reached_yes n (0 + length order) w (let s = (ordered.stands w h).0 in omega arith))
       (along n order 0 d (omega arith) (λ j h. ap (λ i. get_or order i 0) (let z : j ≡ 0 + j = omega arith in z))
-      (follows_same p rack reel delay x (λ _. n) (reached n 0) d (λ w h. sym (reached-not n 0 w (omega arith))) f))
+      (follows_same p rack reel delay x (λ _. n) (reached n 0) d (λ w h. sym (reached_not n 0 w (omega arith))) f))
 
   -- node 0's frame, when it is played
   out : (n : ℕ) (d : Deck) → 0 < length p.nodes → Follows p rack reel delay x (λ _. suc n) d → on_tape d.tape 0 (pos n) ≡ x 0 (pos n)
@@ -113,7 +113,7 @@ module _ (p : Plan) (rack : List (Meaning Frame)) (reel : Tracks) (order : List 
       → (frames_out p order delay reel k n d ≡ span (x 0) (pos n) k) × Follows p rack reel delay x (λ _. n + k) (after_frames p order delay reel k n d)
   plays zero n d some f = (refl, subst (λ j. Follows p rack reel delay x (λ _. j) d) (let z : n ≡ n + 0 = omega arith in z) f)
   plays (suc k) n d some f =
-      let next = frame-follows n d f in
+      let next = frame_follows n d f in
       let e : suc n ≡ n + 1 = omega arith in
       let more = plays k (n + 1) (frame_work p order delay reel n d) some (subst (λ j. Follows p rack reel delay x (λ _. j) (frame_work p order delay reel n d)) e next) in
       let up : pos (n + 1) ≡ pos n +ℤ pos 1 = omega (arith, ints) in (
@@ -128,7 +128,7 @@ module _ (p : Plan) (rack : List (Meaning Frame)) (reel : Tracks) (order : List 
   unfolding silent_tape
   at_first units lawful rested voices lates = record {
     long = length-replicate 16384 silence;
-    holds = λ v m l a b. get_or-replicate 16384 (slot v m) silence silence (slot_inside v m (let few = rules.few_nodes in omega arith)) ∙ sym (silent-before v l m a);
+    holds = λ v m l a b. get_or-replicate 16384 (slot v m) silence silence (slot_inside v m (let few = rules.few_nodes in omega arith)) ∙ sym (silent_before v l m a);
     laws = lawful;
     voices = voices;
     lates = lates;

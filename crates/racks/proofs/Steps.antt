@@ -25,32 +25,32 @@ set_take (suc n) zero (x ∷ xs) y h = refl
 set_take (suc n) (suc s) (x ∷ xs) y h = ap (λ l. x ∷ l) (set_take n s xs y (omega arith))
 
 module _ (us vs : List (Meaning Frame)) (s : ℕ) (few : length us ≤ 16) where
-  pub pair-first : s < length us → unit (take 16 (us ++ vs)) s ≡ unit us s
-  pair-first h = get_or-take 16 (us ++ vs) s no_unit (omega arith) ∙ get_or_append_left us vs no_unit s h
+  pub pair_first : s < length us → unit (take 16 (us ++ vs)) s ≡ unit us s
+  pair_first h = get_or-take 16 (us ++ vs) s no_unit (omega arith) ∙ get_or_append_left us vs no_unit s h
 
-  pub pair-second : length us ≤ s → s < 16 → unit (take 16 (us ++ vs)) s ≡ unit vs (s - length us)
-  pair-second h g = get_or-take 16 (us ++ vs) s no_unit g ∙ get_or-append_right us vs (length us) s no_unit refl h
+  pub pair_second : length us ≤ s → s < 16 → unit (take 16 (us ++ vs)) s ≡ unit vs (s - length us)
+  pair_second h g = get_or-take 16 (us ++ vs) s no_unit g ∙ get_or-append_right us vs (length us) s no_unit refl h
 
   short : 16 ≤ s → length (take 16 (us ++ vs)) ≤ s
   short h = simp length-take (omega arith)
 
-  pub pair-past : 16 ≤ s → unit (take 16 (us ++ vs)) s ≡ no_unit
-  pair-past h = get_or_past (take 16 (us ++ vs)) s no_unit (short h)
+  pub pair_past : 16 ≤ s → unit (take 16 (us ++ vs)) s ≡ no_unit
+  pair_past h = get_or_past (take 16 (us ++ vs)) s no_unit (short h)
 
-  pub pair-steps-first : (f : Frame) → s < length us → stepped (take 16 (us ++ vs)) s f ≡ take 16 (stepped us s f ++ vs)
-  pair-steps-first f h =
-      ap (λ m. set (take 16 (us ++ vs)) s (heard_by m f)) (pair-first h)
+  pub pair_steps_first : (f : Frame) → s < length us → stepped (take 16 (us ++ vs)) s f ≡ take 16 (stepped us s f ++ vs)
+  pair_steps_first f h =
+      ap (λ m. set (take 16 (us ++ vs)) s (heard_by m f)) (pair_first h)
       ∙ set_take 16 s (us ++ vs) (heard_by (unit us s) f) (omega arith)
       ∙ ap (take 16) (set-append_left us vs s (heard_by (unit us s) f) h)
 
-  pub pair-steps-second : (f : Frame) → length us ≤ s → s < 16 → stepped (take 16 (us ++ vs)) s f ≡ take 16 (us ++ stepped vs (s - length us) f)
-  pair-steps-second f h g =
-      ap (λ m. set (take 16 (us ++ vs)) s (heard_by m f)) (pair-second h g)
+  pub pair_steps_second : (f : Frame) → length us ≤ s → s < 16 → stepped (take 16 (us ++ vs)) s f ≡ take 16 (us ++ stepped vs (s - length us) f)
+  pair_steps_second f h g =
+      ap (λ m. set (take 16 (us ++ vs)) s (heard_by m f)) (pair_second h g)
       ∙ set_take 16 s (us ++ vs) (heard_by (unit vs (s - length us)) f) g
       ∙ ap (take 16) (set-append_right us vs (length us) s (heard_by (unit vs (s - length us)) f) refl h)
 
-  pub pair-steps-past : (f : Frame) → 16 ≤ s → stepped (take 16 (us ++ vs)) s f ≡ take 16 (us ++ vs)
-  pair-steps-past f h = set_past (take 16 (us ++ vs)) s _ (short h)
+  pub pair_steps_past : (f : Frame) → 16 ≤ s → stepped (take 16 (us ++ vs)) s f ≡ take 16 (us ++ vs)
+  pair_steps_past f h = set_past (take 16 (us ++ vs)) s _ (short h)
 
 pub pair_rests : (us vs : List (Meaning Frame)) → map rested (take 16 (us ++ vs)) ≡ take 16 (map rested us ++ map rested vs)
 pair_rests us vs = sym (take-map rested 16 (us ++ vs)) ∙ ap (take 16) (map-append rested us vs)

@@ -43,29 +43,29 @@ pushed_all P xs y d all one i h =
 
 module _ (p : Plan) (r : KeepsRules p) where
   module _ (n : Node) (few : length p.nodes < 16) (unused : (s : ℕ) → n.unit ≡ Some s → used p.nodes s ≡ false) where
-    old-node : (v : ℕ) → v < length p.nodes → get_or (p.nodes ++ n ∷ []) v (record { source = Bus; unit = None }) ≡ node p v
-    old-node v h = get_or_append_left p.nodes (n ∷ []) _ v h
+    old_node : (v : ℕ) → v < length p.nodes → get_or (p.nodes ++ n ∷ []) v (record { source = Bus; unit = None }) ≡ node p v
+    old_node v h = get_or_append_left p.nodes (n ∷ []) _ v h
 
     one_of : (v w s : ℕ) → v < length (p.nodes ++ n ∷ []) → w < length (p.nodes ++ n ∷ []) → (get_or (p.nodes ++ n ∷ []) v (record { source = Bus; unit = None })).unit ≡ Some s → (get_or (p.nodes ++ n ∷ []) w (record { source = Bus; unit = None })).unit ≡ Some s → v ≡ w
     one_of v w s lv lw ev ew =
         let lv' : v < length p.nodes + 1 = rw length_push at lv in
         let lw' : w < length p.nodes + 1 = rw length_push at lw in
         ⊎_elim
-        (λ v<. ⊎_elim (λ w<. r.one_node v w s v< w< (ap (λ m. m.unit) (sym (old-node v v<)) ∙ ev) (ap (λ m. m.unit) (sym (old-node w w<)) ∙ ew)) (λ w≥. absurd (clash v w v< (omega arith) ev ew)) (cases_lt w (length p.nodes)))
+        (λ v<. ⊎_elim (λ w<. r.one_node v w s v< w< (ap (λ m. m.unit) (sym (old_node v v<)) ∙ ev) (ap (λ m. m.unit) (sym (old_node w w<)) ∙ ew)) (λ w≥. absurd (clash v w v< (omega arith) ev ew)) (cases_lt w (length p.nodes)))
         (λ v≥. ⊎_elim (λ w<. absurd (clash w v w< (omega arith) ew ev)) (λ w≥. omega arith) (cases_lt w (length p.nodes)))
         (cases_lt v (length p.nodes))
       where
         clash : (a b : ℕ) → a < length p.nodes → length p.nodes ≡ b → (get_or (p.nodes ++ n ∷ []) a (record { source = Bus; unit = None })).unit ≡ Some s → (get_or (p.nodes ++ n ∷ []) b (record { source = Bus; unit = None })).unit ≡ Some s → ⊥
         clash a b a< b= ea eb =
-            not_used p.nodes (record { source = Bus; unit = None }) s a (unused s (ap (λ m. m.unit) (sym (get_or_push p.nodes n _ b b=)) ∙ eb)) a< (ap (λ m. m.unit) (sym (old-node a a<)) ∙ ea)
+            not_used p.nodes (record { source = Bus; unit = None }) s a (unused s (ap (λ m. m.unit) (sym (get_or_push p.nodes n _ b b=)) ∙ eb)) a< (ap (λ m. m.unit) (sym (old_node a a<)) ∙ ea)
 
-    pub keeps-node : KeepsRules (record { nodes = p.nodes ++ n ∷ []; lines = p.lines })
-    keeps-node = record {
+    pub keeps_node : KeepsRules (record { nodes = p.nodes ++ n ∷ []; lines = p.lines })
+    keeps_node = record {
       few_nodes = rw length_push (omega arith);
       few_lines = r.few_lines;
       starts = λ i h. let s = r.starts i h in rw length_push (omega arith);
       ends = λ i h. let s = r.ends i h in rw length_push (omega arith);
-      ends_at_bus = λ i h. ap (λ m. is_bus m.source) (old-node (line p i).end (r.ends i h)) ∙ r.ends_at_bus i h;
+      ends_at_bus = λ i h. ap (λ m. is_bus m.source) (old_node (line p i).end (r.ends i h)) ∙ r.ends_at_bus i h;
       one_node = one_of;
     }
 
@@ -93,48 +93,48 @@ pub some_same : {X : Type 0} (x y : X) → ◌≡◌ {A = Option X} (Some x) (So
 some_same x y e = cc
 
 module _ (h : Held) (r : LawfulDraft h) where
-  pub draft-rate : (n : ℕ) → 8000 ≤ n → n ≤ 192000 → LawfulDraft (record { rate = n; plan = h.plan; settings = h.settings })
-  draft-rate n a b = record { least_rate = λ _. a; most_rate = b; keeps = r.keeps; suited = r.suited }
+  pub draft_rate : (n : ℕ) → 8000 ≤ n → n ≤ 192000 → LawfulDraft (record { rate = n; plan = h.plan; settings = h.settings })
+  draft_rate n a b = record { least_rate = λ _. a; most_rate = b; keeps = r.keeps; suited = r.suited }
 
-  pub draft-plan : (p : Plan) → KeepsRules p → LawfulDraft (record { rate = h.rate; plan = p; settings = h.settings })
-  draft-plan p k = record { least_rate = r.least_rate; most_rate = r.most_rate; keeps = k; suited = r.suited }
+  pub draft_plan : (p : Plan) → KeepsRules p → LawfulDraft (record { rate = h.rate; plan = p; settings = h.settings })
+  draft_plan p k = record { least_rate = r.least_rate; most_rate = r.most_rate; keeps = k; suited = r.suited }
 
-  pub draft-settings : (es : List Setting) → Suited es → LawfulDraft (record { rate = h.rate; plan = h.plan; settings = es })
-  draft-settings es k = record { least_rate = r.least_rate; most_rate = r.most_rate; keeps = r.keeps; suited = k }
+  pub draft_settings : (es : List Setting) → Suited es → LawfulDraft (record { rate = h.rate; plan = h.plan; settings = es })
+  draft_settings es k = record { least_rate = r.least_rate; most_rate = r.most_rate; keeps = r.keeps; suited = k }
 
-  pub draft-kind : (es : List Setting) (s : ℕ) (k : Kind) → s < length h.settings → suits s k ≡ true → es ≡ set h.settings s (with_kind (get_or h.settings s unset) k)
+  pub draft_kind : (es : List Setting) (s : ℕ) (k : Kind) → s < length h.settings → suits s k ≡ true → es ≡ set h.settings s (with_kind (get_or h.settings s unset) k)
       → LawfulDraft (record { rate = h.rate; plan = h.plan; settings = es })
-  draft-kind es s k l f e =
-      draft-settings es (subst Suited (sym e) (suited_set h.settings s _ l r.suited (λ k' q. subst (λ x. suits s x ≡ true) (some_same k k' q) f)))
+  draft_kind es s k l f e =
+      draft_settings es (subst Suited (sym e) (suited_set h.settings s _ l r.suited (λ k' q. subst (λ x. suits s x ≡ true) (some_same k k' q) f)))
 
-  pub draft-layer : (es : List Setting) (s : ℕ) (x : Setting) → s < length h.settings → x.kind ≡ (setting h.settings s).kind → es ≡ set h.settings s x
+  pub draft_layer : (es : List Setting) (s : ℕ) (x : Setting) → s < length h.settings → x.kind ≡ (setting h.settings s).kind → es ≡ set h.settings s x
       → LawfulDraft (record { rate = h.rate; plan = h.plan; settings = es })
-  draft-layer es s x l same e =
-      draft-settings es (subst Suited (sym e) (suited_set h.settings s x l r.suited (λ k q. r.suited s k (sym same ∙ q))))
+  draft_layer es s x l same e =
+      draft_settings es (subst Suited (sym e) (suited_set h.settings s x l r.suited (λ k q. r.suited s k (sym same ∙ q))))
 
   module _ (n : Node) (few : length h.plan.nodes < 16) (ok : free (contents h) n.unit ≡ true) where
-    pub draft-node : (added : Bool) (ns : List Node) → ns ≡ cond added (h.plan.nodes ++ n ∷ []) h.plan.nodes
+    pub draft_node : (added : Bool) (ns : List Node) → ns ≡ cond added (h.plan.nodes ++ n ∷ []) h.plan.nodes
         → LawfulDraft (record { rate = h.rate; plan = record { nodes = ns; lines = h.plan.lines }; settings = h.settings })
-    draft-node added ns e = draft-plan _ (subst (λ l. KeepsRules (record { nodes = l; lines = h.plan.lines })) (sym e) (either added))
+    draft_node added ns e = draft_plan _ (subst (λ l. KeepsRules (record { nodes = l; lines = h.plan.lines })) (sym e) (either added))
       where
         unused : (s : ℕ) → n.unit ≡ Some s → used h.plan.nodes s ≡ false
         unused s q = not-true (used h.plan.nodes s) (and_parts (is_set (contents h) s) (not (used h.plan.nodes s)) (ap (free (contents h)) (sym q) ∙ ok)).1
 
         either : (b : Bool) → KeepsRules (record { nodes = cond b (h.plan.nodes ++ n ∷ []) h.plan.nodes; lines = h.plan.lines })
-        either true = keeps-node h.plan r.keeps n few unused
+        either true = keeps_node h.plan r.keeps n few unused
         either false = r.keeps
 
   module _ (l : Line) (few : length h.plan.lines < 48) (start : l.start < length h.plan.nodes) (ok : bus_at (contents h) l.end ≡ true) where
-    pub draft-line : (added : Bool) (ls : List Line) → ls ≡ cond added (h.plan.lines ++ l ∷ []) h.plan.lines
+    pub draft_line : (added : Bool) (ls : List Line) → ls ≡ cond added (h.plan.lines ++ l ∷ []) h.plan.lines
         → LawfulDraft (record { rate = h.rate; plan = record { nodes = h.plan.nodes; lines = ls }; settings = h.settings })
-    draft-line added ls e = draft-plan _ (subst (λ m. KeepsRules (record { nodes = h.plan.nodes; lines = m })) (sym e) (either added))
+    draft_line added ls e = draft_plan _ (subst (λ m. KeepsRules (record { nodes = h.plan.nodes; lines = m })) (sym e) (either added))
       where
         either : (b : Bool) → KeepsRules (record { nodes = h.plan.nodes; lines = cond b (h.plan.lines ++ l ∷ []) h.plan.lines })
         either true = keeps_line h.plan r.keeps l few start (ltb-true _ _ (and_parts _ _ ok).0) (and_parts _ _ ok).1
         either false = r.keeps
 
-  pub draft-full : 0 < h.rate → 1 ≤ length h.plan.nodes → length h.settings ≡ 8 → Full h
-  draft-full a b e = record { least_rate = r.least_rate a; most_rate = r.most_rate; some_node = b; keeps = r.keeps; eight = e; suited = r.suited }
+  pub draft_full : 0 < h.rate → 1 ≤ length h.plan.nodes → length h.settings ≡ 8 → Full h
+  draft_full a b e = record { least_rate = r.least_rate a; most_rate = r.most_rate; some_node = b; keeps = r.keeps; eight = e; suited = r.suited }
 
 unset_at : (s : ℕ) → get_or (replicate 8 unset) s unset ≡ unset
 unset_at s = ⊎_elim (λ l. get_or-replicate 8 s unset unset l) (λ g. get_or_past (replicate 8 unset) s unset g) (cases_lt s 8)

@@ -21,16 +21,16 @@ pub set_below : (es : List Setting) (s : ℕ) → length es ≡ 8 → is_some (g
 set_below es s l h = ⊎_elim (λ lt. lt) (λ ge. absurd (both_ways _ (ap (λ e. is_some e.set_to) (entry_past es s (rw l ge))) h)) (cases_lt s 8)
 
 module _ (h : Held) (s : ℕ) (fits : s < length h.settings) (es : List Setting) where
-  after-entry : (e : Setting) (x : Entry) → es ≡ set h.settings s e → entry e ≡ x → contents (record { rate = h.rate; plan = h.plan; settings = es }) ≡ with_entry (contents h) s x
-  after-entry e x p q =
+  after_entry : (e : Setting) (x : Entry) → es ≡ set h.settings s e → entry e ≡ x → contents (record { rate = h.rate; plan = h.plan; settings = es }) ≡ with_entry (contents h) s x
+  after_entry e x p q =
       ap (λ l. record { rate = h.rate; nodes = h.plan.nodes; lines = h.plan.lines; entries = l })
       (ap (map entry) p ∙ map-set entry h.settings s e ∙ ap (set (map entry h.settings) s) q)
 
-  pub after-kind : (k : Kind) → es ≡ set h.settings s (with_kind (get_or h.settings s unset) k) → contents (record { rate = h.rate; plan = h.plan; settings = es }) ≡ with_unit (contents h) s (effect k)
-  after-kind k p = after-entry _ _ p (ap (λ x. set_entry x (effect k)) (sym (entry_read h.settings s unset fits)))
+  pub after_kind : (k : Kind) → es ≡ set h.settings s (with_kind (get_or h.settings s unset) k) → contents (record { rate = h.rate; plan = h.plan; settings = es }) ≡ with_unit (contents h) s (effect k)
+  after_kind k p = after_entry _ _ p (ap (λ x. set_entry x (effect k)) (sym (entry_read h.settings s unset fits)))
 
-  pub after-trim : (g : ℤ) → es ≡ set h.settings s (with_gain (get_or h.settings s unset) g) → contents (record { rate = h.rate; plan = h.plan; settings = es }) ≡ with_trim (contents h) s g
-  after-trim g p = after-entry _ _ p (ap (λ x. trimmed x g) (sym (entry_read h.settings s unset fits)))
+  pub after_trim : (g : ℤ) → es ≡ set h.settings s (with_gain (get_or h.settings s unset) g) → contents (record { rate = h.rate; plan = h.plan; settings = es }) ≡ with_trim (contents h) s g
+  after_trim g p = after_entry _ _ p (ap (λ x. trimmed x g) (sym (entry_read h.settings s unset fits)))
 
-  pub after-bypass : es ≡ set h.settings s (passed_by (get_or h.settings s unset)) → contents (record { rate = h.rate; plan = h.plan; settings = es }) ≡ with_bypass (contents h) s
-  after-bypass p = after-entry _ _ p (ap bypassed (sym (entry_read h.settings s unset fits)))
+  pub after_bypass : es ≡ set h.settings s (passed_by (get_or h.settings s unset)) → contents (record { rate = h.rate; plan = h.plan; settings = es }) ≡ with_bypass (contents h) s
+  after_bypass p = after_entry _ _ p (ap bypassed (sym (entry_read h.settings s unset fits)))

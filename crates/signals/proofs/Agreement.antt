@@ -9,7 +9,7 @@ use Rattle.session.specs.Plan.{KeepsRules, Plan, line, lines_into, node}
 use Rattle.signals.proofs.Inputs.{SilentUntil, common_lead, input_same, input_silent, track_alone}
 use Rattle.signals.proofs.Lines.{all_lines}
 use Rattle.signals.proofs.Listening.{makes_same, moves_in_time}
-use Rattle.signals.proofs.Order.{from-starts}
+use Rattle.signals.proofs.Order.{from_starts}
 use Rattle.signals.specs.Patches.{Ordered, lateness, unit_late}
 use Rattle.signals.specs.Signals.{Gives, Makes, Runs, Signal, SilentBefore, input}
 use Rattle.signals.specs.Theorems.{AlignedIsIdeal}
@@ -46,7 +46,7 @@ pub runs_agree : (p : Plan) (rack : List (Meaning Frame)) (reel : Tracks) (place
     → (x y : ℕ → Signal Frame) → Runs p rack reel d a x → Runs p rack reel e b y
     → (v : ℕ) → v < length p.nodes → (n : ℤ) → y v n ≡ x v (n -ℤ pos (late v))
 runs_agree p rack reel place rules order d e a b arrival late meets alone holds x y runs others =
-    from-starts p place rules order (λ v. (n : ℤ) → y v n ≡ x v (n -ℤ pos (late v))) (λ v l before n.
+    from_starts p place rules order (λ v. (n : ℤ) → y v n ≡ x v (n -ℤ pos (late v))) (λ v l before n.
     let lead = common_lead (λ i. y (line p i).start) (lines_into p v)
     (all_lines p v (λ i. (b : ℤ) × SilentBefore silence (y (line p i).start) b) (λ i c _. others.begins (line p i).start (rules.starts i c))) in
     gives_same rack a b (node p v).unit (input p reel d x v (node p v).source) (input p reel e y v (node p v).source)

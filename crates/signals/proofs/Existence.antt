@@ -10,7 +10,7 @@ use Rattle.signals.proofs.Agreement.{ahead_of, runs_same}
 use Rattle.signals.proofs.Inputs.{SilentUntil, input_same, input_silent, silent_lead}
 use Rattle.signals.proofs.Lines.{EachInto, all_lines, at_most_greatest, each_line, greatest_same}
 use Rattle.signals.proofs.Listening.{made, made_makes, made_silent}
-use Rattle.signals.proofs.Order.{LooksBack, from-starts, meets-rule, settled}
+use Rattle.signals.proofs.Order.{LooksBack, from_starts, meets_rule, settled}
 use Rattle.signals.proofs.Units.{unit_lawful}
 use Rattle.signals.specs.Patches.{Ordered}
 use Rattle.signals.specs.Signals.{Gives, Runs, Signal, input}
@@ -44,49 +44,49 @@ record Begun : Type 0 where
   lead : ℕ
 
 module _ (p : Plan) (rack : List (Meaning Frame)) (reel : Tracks) (delay : ℕ → ℕ) (ahead : Meaning Frame → ℕ) where
-  abbrev lead-in : (ℕ → Begun) → ℕ → ℕ
-  lead-in f v = greatest (λ i. (f (line p i).start).lead) (lines_into p v)
+  abbrev lead_in : (ℕ → Begun) → ℕ → ℕ
+  lead_in f v = greatest (λ i. (f (line p i).start).lead) (lines_into p v)
 
-  abbrev heard-in : (ℕ → Begun) → ℕ → Signal Frame
-  heard-in f v = input p reel delay (λ u. (f u).signal) v (node p v).source
+  abbrev heard_in : (ℕ → Begun) → ℕ → Signal Frame
+  heard_in f v = input p reel delay (λ u. (f u).signal) v (node p v).source
 
-  abbrev run-rule : (ℕ → Begun) → ℕ → Begun
-  run-rule f v = record {
-    signal = answered rack ahead (node p v).unit (heard-in f v) (lead-in f v);
-    lead = lead-in f v + ahead_of rack ahead (node p v).unit;
+  abbrev run_rule : (ℕ → Begun) → ℕ → Begun
+  run_rule f v = record {
+    signal = answered rack ahead (node p v).unit (heard_in f v) (lead_in f v);
+    lead = lead_in f v + ahead_of rack ahead (node p v).unit;
   }
 
-  run_looks : LooksBack p run-rule
+  run_looks : LooksBack p run_rule
   run_looks f g v h =
       ap₂ (λ x k. record { signal = answered rack ahead (node p v).unit x k; lead = k + ahead_of rack ahead (node p v).unit })
       (fun_ext (λ n.
       input_same p reel delay delay (λ u. (g u).signal) (λ u. (f u).signal) v 0 (node p v).source (λ _ _. refl)
       (λ i b e k. ap (λ z. z.signal (k -ℤ pos (delay i))) (h i b e) ∙ ap (g (line p i).start).signal (omega (arith, ints))) n
-      ∙ ap (heard-in g v) (omega (arith, ints))))
+      ∙ ap (heard_in g v) (omega (arith, ints))))
       (greatest_same (λ i. (f (line p i).start).lead) (λ i. (g (line p i).start).lead) (lines_into p v)
       (all_lines p v (λ i. (f (line p i).start).lead ≡ (g (line p i).start).lead) (λ i b e. ap (λ z. z.lead) (h i b e))))
 
   module _ (place : ℕ → ℕ) (rules : KeepsRules p) (laws : RackLaws rack) (order : Ordered p place) where
     abbrev found : ℕ → Begun
-    found = settled place (record { signal = λ _. silence; lead = 0 }) run-rule
+    found = settled place (record { signal = λ _. silence; lead = 0 }) run_rule
 
-    found_is : (v : ℕ) → found v ≡ run-rule found v
-    found_is = meets-rule p place order (record { signal = λ _. silence; lead = 0 }) run-rule run_looks
+    found_is : (v : ℕ) → found v ≡ run_rule found v
+    found_is = meets_rule p place order (record { signal = λ _. silence; lead = 0 }) run_rule run_looks
 
     input_begun : (v : ℕ) → EachInto p v (λ i. SilentUntil (found (line p i).start).signal (found (line p i).start).lead)
-        → SilentUntil (heard-in found v) (lead-in found v)
+        → SilentUntil (heard_in found v) (lead_in found v)
     input_begun v h =
-        input_silent p reel delay (λ u. (found u).signal) v (lead-in found v)
-        (all_lines p v (λ i. SilentUntil (found (line p i).start).signal (lead-in found v)) (λ i b e.
-        let most = each_line p v (λ j. (found (line p j).start).lead ≤ lead-in found v)
+        input_silent p reel delay (λ u. (found u).signal) v (lead_in found v)
+        (all_lines p v (λ i. SilentUntil (found (line p i).start).signal (lead_in found v)) (λ i b e.
+        let most = each_line p v (λ j. (found (line p j).start).lead ≤ lead_in found v)
         (at_most_greatest (λ j. (found (line p j).start).lead) (lines_into p v)) i b e in
-        silent_lead (found (line p i).start).signal (found (line p i).start).lead (lead-in found v) (h i b e) (omega arith)))
+        silent_lead (found (line p i).start).signal (found (line p i).start).lead (lead_in found v) (h i b e) (omega arith)))
         (node p v).source
 
     begun : (v : ℕ) → v < length p.nodes → SilentUntil (found v).signal (found v).lead
-    begun = from-starts p place rules order (λ v. SilentUntil (found v).signal (found v).lead) (λ v l before.
+    begun = from_starts p place rules order (λ v. SilentUntil (found v).signal (found v).lead) (λ v l before.
         subst⁻¹ (λ z. SilentUntil z.signal z.lead) (found_is v)
-        (answered_silent rack laws ahead (node p v).unit (heard-in found v) (lead-in found v) (input_begun v before)))
+        (answered_silent rack laws ahead (node p v).unit (heard_in found v) (lead_in found v) (input_begun v before)))
 
     -- There is one run, and one only.
     pub one_run : (x : ℕ → Signal Frame) × Runs p rack reel delay ahead x
@@ -95,8 +95,8 @@ module _ (p : Plan) (rack : List (Meaning Frame)) (reel : Tracks) (delay : ℕ �
         let runs : Runs p rack reel delay ahead (λ u. (found u).signal) = record {
           begins = λ v l. (neg_ℤ (pos (found v).lead), begun v l);
           follows = λ v n l.
-              subst⁻¹ (λ z. Gives rack ahead (node p v).unit (heard-in found v) n (z.signal n)) (found_is v)
-              (answered_gives rack laws ahead (node p v).unit (heard-in found v) (lead-in found v)
+              subst⁻¹ (λ z. Gives rack ahead (node p v).unit (heard_in found v) n (z.signal n)) (found_is v)
+              (answered_gives rack laws ahead (node p v).unit (heard_in found v) (lead_in found v)
               (input_begun v (λ i b e. begun (line p i).start (rules.starts i b))) n);
         } in
         ((λ u. (found u).signal), runs, λ y other. runs_same p rack reel place rules order delay ahead (λ u. (found u).signal) y runs other)

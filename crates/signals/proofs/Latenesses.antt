@@ -4,7 +4,7 @@ use Rattle.frames.specs.declared.samples.Frame.{Frame}
 use Rattle.racks.specs.Rack.{RackLaws, unit}
 use Rattle.session.specs.Plan.{KeepsRules, Plan, line, lines_into, node}
 use Rattle.signals.proofs.Lines.{EachInto, all_lines, at_most_greatest, each_line, greatest_at_most, greatest_same, with_lines}
-use Rattle.signals.proofs.Order.{LooksBack, from-starts, meets-rule, settled}
+use Rattle.signals.proofs.Order.{LooksBack, from_starts, meets_rule, settled}
 use Rattle.signals.proofs.Units.{unit_lawful}
 use Rattle.signals.specs.Patches.{Ordered, OurLatenesses, lateness, latest_start, unit_late}
 use Rattle.signals.specs.Theorems.{DelaysStayShort, OneArrival, OneLateness, OursIsAligned, OursIsLeast}
@@ -28,10 +28,10 @@ pub one_lateness : OneLateness
 one_lateness p rack place rules order =
     let late = settled place 0 (late_rule p rack) in (
       late,
-      (λ v l. meets-rule p place order 0 (late_rule p rack) (late_looks p rack) v),
+      (λ v l. meets_rule p place order 0 (late_rule p rack) (late_looks p rack) v),
       λ other h.
-          from-starts p place rules order (λ v. other v ≡ late v) (λ v l before.
-          h v l ∙ late_looks p rack other late v before ∙ sym (meets-rule p place order 0 (late_rule p rack) (late_looks p rack) v)),
+          from_starts p place rules order (λ v. other v ≡ late v) (λ v l before.
+          h v l ∙ late_looks p rack other late v before ∙ sym (meets_rule p place order 0 (late_rule p rack) (late_looks p rack) v)),
     )
 
 -- A start is at most as late as the latest start into its line's end.
@@ -56,14 +56,14 @@ ours_is_aligned p rack late rules ours = (
 
 pub one_arrival : OneArrival
 one_arrival p rack place rules order delay a b s t =
-    from-starts p place rules order (λ v. a v ≡ b v) (λ v l before.
+    from_starts p place rules order (λ v. a v ≡ b v) (λ v l before.
     with_lines p v (a v ≡ b v)
     (λ none. s.alone v l none ∙ sym (t.alone v l none))
     (λ i c e. omega (arith, ap a e, ap b e, s.meets i c, t.meets i c, before i c e)))
 
 pub ours_is_least : OursIsLeast
 ours_is_least p rack place late rules order ours delay arrival aligned =
-    from-starts p place rules order (λ v. late v ≤ lateness p rack arrival v) (λ v l before.
+    from_starts p place rules order (λ v. late v ≤ lateness p rack arrival v) (λ v l before.
     let most : latest_start p late v ≤ arrival v =
     latest_at_most p late v (arrival v) (λ i b e. omega (arith, before i b e, aligned.meets i b, ap arrival e)) in
     omega (arith, ours v l))
@@ -74,15 +74,15 @@ unit_late_at_most rack laws (Some s) = (unit_lawful rack laws s).late_bound
 
 module _ (p : Plan) (rack : List (Meaning Frame)) (place late : ℕ → ℕ) (rules : KeepsRules p) (laws : RackLaws rack)
     (order : Ordered p place) (ours : OurLatenesses p rack late) where
-  latest-by-place : (v : ℕ) → EachInto p v (λ i. late (line p i).start ≤ 63 * (place (line p i).start + 1)) → latest_start p late v ≤ 63 * place v
-  latest-by-place v h = latest_at_most p late v (63 * place v) (λ i b e. omega (arith, h i b e, order.before i b, ap place e))
+  latest_by_place : (v : ℕ) → EachInto p v (λ i. late (line p i).start ≤ 63 * (place (line p i).start + 1)) → latest_start p late v ≤ 63 * place v
+  latest_by_place v h = latest_at_most p late v (63 * place v) (λ i b e. omega (arith, h i b e, order.before i b, ap place e))
 
-  late-by-place : (v : ℕ) → v < length p.nodes → late v ≤ 63 * (place v + 1)
-  late-by-place = from-starts p place rules order (λ v. late v ≤ 63 * (place v + 1)) (λ v l h.
-      omega (arith, latest-by-place v h, ours v l, unit_late_at_most rack laws (node p v).unit))
+  late_by_place : (v : ℕ) → v < length p.nodes → late v ≤ 63 * (place v + 1)
+  late_by_place = from_starts p place rules order (λ v. late v ≤ 63 * (place v + 1)) (λ v l h.
+      omega (arith, latest_by_place v h, ours v l, unit_late_at_most rack laws (node p v).unit))
 
 pub delays_stay_short : DelaysStayShort
 delays_stay_short p rack place late rules laws order ours i b =
-    let latest = latest-by-place p rack place late rules laws order ours (line p i).end
-    (λ j c _. late-by-place p rack place late rules laws order ours (line p j).start (rules.starts j c)) in
+    let latest = latest_by_place p rack place late rules laws order ours (line p i).end
+    (λ j c _. late_by_place p rack place late rules laws order ours (line p j).start (rules.starts j c)) in
     omega (arith, order.inside (line p i).end (rules.ends i b), rules.few_nodes)

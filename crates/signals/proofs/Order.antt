@@ -12,8 +12,8 @@ module _ (p : Plan) (place : ℕ → ℕ) (rules : KeepsRules p) (order : Ordere
   up_to (suc k) v h l =
       on v l (λ i b e. up_to k (line p i).start (omega (arith, order.before i b, ap place e)) (rules.starts i b))
 
-  pub from-starts : (v : ℕ) → v < length p.nodes → P v
-  from-starts v l = up_to (suc (place v)) v (omega arith) l
+  pub from_starts : (v : ℕ) → v < length p.nodes → P v
+  from_starts v l = up_to (suc (place v)) v (omega arith) l
 
 -- The values that a rule gives each node from those of the starts of its lines in, after k rounds.
 abbrev pub rounds : {A : Type 0} → A → ((ℕ → A) → ℕ → A) → ℕ → ℕ → A
@@ -38,7 +38,7 @@ module _ {A : Type 0} (p : Plan) (place : ℕ → ℕ) (order : Ordered p place)
       settles k j (line p i).start (omega (arith, order.before i b, ap place e)) (omega (arith, order.before i b, ap place e)))
 
   -- The settled values meet the rule.
-  pub meets-rule : (v : ℕ) → settled place first rule v ≡ rule (settled place first rule) v
-  meets-rule v =
+  pub meets_rule : (v : ℕ) → settled place first rule v ≡ rule (settled place first rule) v
+  meets_rule v =
       looks (rounds first rule (place v)) (settled place first rule) v (λ i b e.
       settles (place v) (suc (place (line p i).start)) (line p i).start (omega (arith, order.before i b, ap place e)) (omega arith))

@@ -24,17 +24,17 @@ below_three P a b c zero h = a
 below_three P a b c (suc v) h = below_two (λ i. P (suc i)) b c v (omega arith)
 
 module _ (a b : Node) (plain : b.unit ≡ None) where
-  unit-at-one : (s v : ℕ) → v < 3 → (node (two_into_one a b) v).unit ≡ Some s → v ≡ 1
-  unit-at-one s = below_three (λ v. (node (two_into_one a b) v).unit ≡ Some s → v ≡ 1) (λ e. cc) (λ e. refl) (λ e. cc)
+  unit_at_one : (s v : ℕ) → v < 3 → (node (two_into_one a b) v).unit ≡ Some s → v ≡ 1
+  unit_at_one s = below_three (λ v. (node (two_into_one a b) v).unit ≡ Some s → v ≡ 1) (λ e. cc) (λ e. refl) (λ e. cc)
 
-  two-keeps : KeepsRules (two_into_one a b)
-  two-keeps = record {
+  two_keeps : KeepsRules (two_into_one a b)
+  two_keeps = record {
     few_nodes = omega arith;
     few_lines = omega arith;
     starts = below_two (λ i. (line (two_into_one a b) i).start < 3) (omega arith) (omega arith);
     ends = below_two (λ i. (line (two_into_one a b) i).end < 3) (omega arith) (omega arith);
     ends_at_bus = below_two (λ i. is_bus (node (two_into_one a b) (line (two_into_one a b) i).end).source ≡ true) refl refl;
-    one_node = λ v w s h l e f. unit-at-one s v h e ∙ sym (unit-at-one s w l f);
+    one_node = λ v w s h l e f. unit_at_one s v h e ∙ sym (unit_at_one s w l f);
   }
 
 two_placed : (a b : Node) → Ordered (two_into_one a b) output_last
@@ -67,7 +67,7 @@ not_once (negsuc n) e = omega (arith, ints)
 pub comb : Comb
 unfolding both
 comb = record {
-  keeps = two-keeps _ _ refl;
+  keeps = two_keeps _ _ refl;
   placed = two_placed _ _;
   unaligned = λ arrival h.
       omega (arith, h.meets 0 (omega arith), h.meets 1 (omega arith), h.alone 1 (omega arith) refl, h.alone 2 (omega arith) refl);
@@ -81,17 +81,17 @@ comb = record {
 }
 
 module _ (rack : List (Meaning Frame)) (forty : (unit rack 0).late ≡ 40) where
-  our-numbers : (late : ℕ → ℕ) → OurLatenesses late_and_plain rack late → (late 0 ≡ 40) × (late 1 ≡ 40) × (late 2 ≡ 0)
-  our-numbers late h = omega (arith, h 0 (omega arith), h 1 (omega arith), h 2 (omega arith))
+  our_numbers : (late : ℕ → ℕ) → OurLatenesses late_and_plain rack late → (late 0 ≡ 40) × (late 1 ≡ 40) × (late 2 ≡ 0)
+  our_numbers late h = omega (arith, h 0 (omega arith), h 1 (omega arith), h 2 (omega arith))
 
 pub held_longer : HeldLonger
 held_longer = record {
-  keeps = two-keeps _ _ refl;
+  keeps = two_keeps _ _ refl;
   placed = two_placed _ _;
-  ours = λ rack forty late h. omega (arith, our-numbers rack forty late h);
+  ours = λ rack forty late h. omega (arith, our_numbers rack forty late h);
   longer = λ rack forty late h.
       below_two (λ i. a_frame_longer i ≡ our_delay late_and_plain late i + 1)
-      (omega (arith, our-numbers rack forty late h)) (omega (arith, our-numbers rack forty late h));
+      (omega (arith, our_numbers rack forty late h)) (omega (arith, our_numbers rack forty late h));
   rival = λ rack forty. (
     record {
       meets = below_two (λ i.

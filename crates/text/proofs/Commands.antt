@@ -68,12 +68,12 @@ first_is w =
 
 -- a unit line
 module _ (c d : Contents) (vs : List Spelling) where
-  abbrev pub A-setup : Spelling → Type 0
-  A-setup w = (x : Setup) × SetupFits c x × (d ≡ after_setup c x) × (w ∷ vs ≡ map spelling (setup_words x))
+  abbrev pub ASetup : Spelling → Type 0
+  ASetup w = (x : Setup) × SetupFits c x × (d ≡ after_setup c x) × (w ∷ vs ≡ map spelling (setup_words x))
 
-  kind-sound : (s : ℕ) (e : Effect) (us : List Spelling) → not (is_set c s) ≡ true → s ≤ 7 → KindRest s e us → (k : Sort) × (e ≡ made k) × (unit_fits c s (made k) ≡ true) × SortRanges k × (us ≡ map spelling (sort_words k))
+  kind_sound : (s : ℕ) (e : Effect) (us : List Spelling) → not (is_set c s) ≡ true → s ≤ 7 → KindRest s e us → (k : Sort) × (e ≡ made k) × (unit_fits c s (made k) ≡ true) × SortRanges k × (us ≡ map spelling (sort_words k))
   unfolding spelling all_letters
-  kind-sound s e us free few r =
+  kind_sound s e us free few r =
       ⊎_elim (λ a. let f = when_true _ _ a r in (a_fir f.0, f.1, and_from (ltb s 2) _ a free, (f.2, f.3, f.4), f.5 ∙ ap (λ z. name (codes "fir") ∷ spelling (decimal (length f.0)) ∷ z) (gains_words f.0)))
       (λ a. let r₁ = when_false _ _ a r in let lo = ltb-false s 2 a in
       ⊎_elim (λ b. let f = when_true _ _ b r₁ in (a_limit f.0 f.1, f.2, and_from (leb 2 s && ltb s 4) _ (and_from (leb 2 s) (ltb s 4) (le-leb 2 s lo) b) free, (f.3, f.4, f.5), f.6))
@@ -85,113 +85,113 @@ module _ (c d : Contents) (vs : List Spelling) where
       (cases_Bool (ltb s 4)))
       (cases_Bool (ltb s 2))
 
-  pub unit-sound : UnitRest c d vs → A-setup (name (codes "unit"))
+  pub unit_sound : UnitRest c d vs → ASetup (name (codes "unit"))
   unfolding spelling all_letters
-  unit-sound h =
-      let k = kind-sound h.0 h.1 h.5 h.4 h.3 h.7 in
+  unit_sound h =
+      let k = kind_sound h.0 h.1 h.5 h.4 h.3 h.7 in
       (sets h.0 k.0, (k.2, k.3), h.2 ∙ ap (with_unit c h.0) k.1, ap (λ z. name (codes "unit") ∷ z) (h.6 ∙ ap (λ z. spelling (decimal h.0) ∷ z) k.4))
 
-  pub layer-sound : LayerRest c d vs → A-setup (name (codes "layer"))
+  pub layer_sound : LayerRest c d vs → ASetup (name (codes "layer"))
   unfolding spelling all_letters
-  layer-sound h =
+  layer_sound h =
       ⊎_elim (λ t. (trims t.0 t.1, (t.3, and_from (is_set c t.0) _ t.4 t.5, t.6), t.2, ap (λ z. name (codes "layer") ∷ z) t.7))
       (λ t. (bypasses t.0, (t.2, and_from (is_set c t.0) _ t.3 t.4), t.1, ap (λ z. name (codes "layer") ∷ z) t.5)) h
 
-  unit-free : (u : Option ℕ) → UnitOk c u → (free c u ≡ true) × UnitRange u
-  unit-free None h = (refl, tt)
-  unit-free (Some s) h = (h.1, h.0)
+  unit_free : (u : Option ℕ) → UnitOk c u → (free c u ≡ true) × UnitRange u
+  unit_free None h = (refl, tt)
+  unit_free (Some s) h = (h.1, h.0)
 
-  abbrev pub A-node : Spelling → Type 0
-  A-node w = (n : nodes.Node) × NodeFits c n × (d ≡ with_node c n) × (w ∷ vs ≡ map spelling (node_words (length c.nodes) n))
+  abbrev pub ANode : Spelling → Type 0
+  ANode w = (n : nodes.Node) × NodeFits c n × (d ≡ with_node c n) × (w ∷ vs ≡ map spelling (node_words (length c.nodes) n))
 
-  pub node-sound : NodeRest c d vs → A-node (name (codes "node"))
+  pub node_sound : NodeRest c d vs → ANode (name (codes "node"))
   unfolding spelling all_letters
-  node-sound h =
+  node_sound h =
       let n = h.1 in
       let e : h.0 ≡ length c.nodes = eqb-true h.0 (length c.nodes) h.4 in
       let few = h.3 in
-      let u = unit-free n.unit h.6 in (
+      let u = unit_free n.unit h.6 in (
         n,
         (and_from (ltb (length c.nodes) 16) _ (lt-ltb (length c.nodes) 16 (omega arith)) u.0, h.5, u.1),
         h.2,
         ap (λ z. name (codes "node") ∷ z) (h.7 ∙ ap₂ (λ v z. spelling (decimal v) ∷ z) e (node_tail n.source n.unit)),
       )
 
-  abbrev pub A-link : Spelling → Type 0
-  A-link w = (l : links.Line) × LinkFits c l × (d ≡ with_line c l) × (w ∷ vs ≡ map spelling (link_words l))
+  abbrev pub ALink : Spelling → Type 0
+  ALink w = (l : links.Line) × LinkFits c l × (d ≡ with_line c l) × (w ∷ vs ≡ map spelling (link_words l))
 
-  pub link-sound : LinkRest c d vs → A-link (name (codes "line"))
+  pub link_sound : LinkRest c d vs → ALink (name (codes "line"))
   unfolding spelling all_letters
-  link-sound h =
+  link_sound h =
       (h.0, (and_from (ltb (length c.lines) 48) _ h.2 (and_from (ltb h.0.start (length c.nodes)) _ h.4 h.6), h.3, h.5, h.7), h.1, ap (λ z. name (codes "line") ∷ z) h.8)
 
-  abbrev pub A-session : Spelling → Type 0
-  A-session w = (r : ℕ) × (8000 ≤ r) × (r ≤ 192000) × (d ≡ with_rate c r) × (w ∷ vs ≡ map spelling (session_words r))
+  abbrev pub ASession : Spelling → Type 0
+  ASession w = (r : ℕ) × (8000 ≤ r) × (r ≤ 192000) × (d ≡ with_rate c r) × (w ∷ vs ≡ map spelling (session_words r))
 
-  pub session-sound : SessionRest c d vs → A-session (name (codes "session"))
+  pub session_sound : SessionRest c d vs → ASession (name (codes "session"))
   unfolding spelling all_letters all_digits
-  session-sound h = (h.0, h.2, h.3, h.1, ap (λ z. name (codes "session") ∷ z) h.4)
+  session_sound h = (h.0, h.2, h.3, h.1, ap (λ z. name (codes "session") ∷ z) h.4)
 
 -- and the other way round
 module _ (c : Contents) where
-  kind-complete : (s : ℕ) (k : Sort) → fits_unit s (made k) ≡ true → SortRanges k → KindRest s (made k) (map spelling (sort_words k))
+  kind_complete : (s : ℕ) (k : Sort) → fits_unit s (made k) ≡ true → SortRanges k → KindRest s (made k) (map spelling (sort_words k))
   unfolding spelling all_letters
-  kind-complete s (a_fir gs) f r = when_yes (ltb s 2) _ _ f (gs, refl, r.0, r.1, r.2, ap (λ z. name (codes "fir") ∷ spelling (decimal (length gs)) ∷ z) (sym (gains_words gs)))
-  kind-complete s (a_limit a b) f r =
+  kind_complete s (a_fir gs) f r = when_yes (ltb s 2) _ _ f (gs, refl, r.0, r.1, r.2, ap (λ z. name (codes "fir") ∷ spelling (decimal (length gs)) ∷ z) (sym (gains_words gs)))
+  kind_complete s (a_limit a b) f r =
       let p = and_parts (leb 2 s) (ltb s 4) f in
       when_no (ltb s 2) _ _ (le-ltb s 2 (leb-true 2 s p.0)) (when_yes (ltb s 4) _ _ p.1 (a, b, refl, r.0, r.1, r.2, refl))
-  kind-complete s (a_pan a) f r =
+  kind_complete s (a_pan a) f r =
       let p = and_parts (leb 4 s) (ltb s 6) f in
       let q = leb-true 4 s p.0 in
       when_no (ltb s 2) _ _ (le-ltb s 2 (omega arith)) (when_no (ltb s 4) _ _ (le-ltb s 4 q) (when_yes (ltb s 6) _ _ p.1 (a, refl, r, refl)))
-  kind-complete s (a_delay a) f r =
+  kind_complete s (a_delay a) f r =
       let p = and_parts (leb 6 s) (ltb s 8) f in
       let q = leb-true 6 s p.0 in
       when_no (ltb s 2) _ _ (le-ltb s 2 (omega arith)) (when_no (ltb s 4) _ _ (le-ltb s 4 (omega arith)) (when_no (ltb s 6) _ _ (le-ltb s 6 q) (a, refl, r, refl)))
 
-  unit-most : (s : ℕ) (k : Sort) → fits_unit s (made k) ≡ true → s ≤ 7
-  unit-most s (a_fir gs) f = omega (arith, ltb-true s 2 f)
-  unit-most s (a_limit a b) f = omega (arith, ltb-true s 4 (and_parts (leb 2 s) (ltb s 4) f).1)
-  unit-most s (a_pan a) f = omega (arith, ltb-true s 6 (and_parts (leb 4 s) (ltb s 6) f).1)
-  unit-most s (a_delay a) f = omega (arith, ltb-true s 8 (and_parts (leb 6 s) (ltb s 8) f).1)
+  unit_most : (s : ℕ) (k : Sort) → fits_unit s (made k) ≡ true → s ≤ 7
+  unit_most s (a_fir gs) f = omega (arith, ltb-true s 2 f)
+  unit_most s (a_limit a b) f = omega (arith, ltb-true s 4 (and_parts (leb 2 s) (ltb s 4) f).1)
+  unit_most s (a_pan a) f = omega (arith, ltb-true s 6 (and_parts (leb 4 s) (ltb s 6) f).1)
+  unit_most s (a_delay a) f = omega (arith, ltb-true s 8 (and_parts (leb 6 s) (ltb s 8) f).1)
 
-  pub setup-complete : (x : Setup) → SetupFits c x → Says Units c (setup_words x) (record { stage = Units; held = after_setup c x; ended = false })
+  pub setup_complete : (x : Setup) → SetupFits c x → Says Units c (setup_words x) (record { stage = Units; held = after_setup c x; ended = false })
   unfolding spelling all_letters
-  setup-complete (sets s k) h =
+  setup_complete (sets s k) h =
       let p = and_parts (fits_unit s (made k)) (not (is_set c s)) h.0 in
-      (name (codes "unit"), spelling (decimal s) ∷ map spelling (sort_words k), refl, (Units, refl, (with_unit c s (made k), refl, (s, made k, refl, unit-most s k p.0, p.1, map spelling (sort_words k), refl, kind-complete s k p.0 h.1))))
-  setup-complete (trims s g) h =
+      (name (codes "unit"), spelling (decimal s) ∷ map spelling (sort_words k), refl, (Units, refl, (with_unit c s (made k), refl, (s, made k, refl, unit_most s k p.0, p.1, map spelling (sort_words k), refl, kind_complete s k p.0 h.1))))
+  setup_complete (trims s g) h =
       let p = and_parts (is_set c s) (not (has_trim c s)) h.1 in
       (name (codes "layer"), spelling (decimal s) ∷ name (codes "trim") ∷ spelling (signed_decimal g) ∷ [], refl, (Units, refl, (after_setup c (trims s g), refl, inl (s, g, refl, h.0, p.0, p.1, h.2, refl))))
-  setup-complete (bypasses s) h =
+  setup_complete (bypasses s) h =
       let p = and_parts (is_set c s) (not (has_bypass c s)) h.1 in
       (name (codes "layer"), spelling (decimal s) ∷ name (codes "bypass") ∷ [], refl, (Units, refl, (after_setup c (bypasses s), refl, inr (s, refl, h.0, p.0, p.1, refl))))
 
-  unit-back : (u : Option ℕ) → free c u ≡ true → UnitRange u → UnitOk c u
-  unit-back None f r = tt
-  unit-back (Some s) f r = (r, f)
+  unit_back : (u : Option ℕ) → free c u ≡ true → UnitRange u → UnitOk c u
+  unit_back None f r = tt
+  unit_back (Some s) f r = (r, f)
 
-  pub node-complete : (st : Stage) → next_stage st Node ≡ Some Nodes → (n : nodes.Node) → NodeFits c n → Says st c (node_words (length c.nodes) n) (record { stage = Nodes; held = with_node c n; ended = false })
+  pub node_complete : (st : Stage) → next_stage st Node ≡ Some Nodes → (n : nodes.Node) → NodeFits c n → Says st c (node_words (length c.nodes) n) (record { stage = Nodes; held = with_node c n; ended = false })
   unfolding spelling all_letters
-  node-complete st due n h =
+  node_complete st due n h =
       let p = and_parts (ltb (length c.nodes) 16) (free c n.unit) h.0 in
       let few = ltb-true (length c.nodes) 16 p.0 in
-      (name (codes "node"), _, refl, (Nodes, due, (with_node c n, refl, (length c.nodes, n, refl, omega arith, eq-eqb (length c.nodes) (length c.nodes) refl, h.1, unit-back n.unit p.1 h.2, ap (λ z. spelling (decimal (length c.nodes)) ∷ z) (sym (node_tail n.source n.unit))))))
+      (name (codes "node"), _, refl, (Nodes, due, (with_node c n, refl, (length c.nodes, n, refl, omega arith, eq-eqb (length c.nodes) (length c.nodes) refl, h.1, unit_back n.unit p.1 h.2, ap (λ z. spelling (decimal (length c.nodes)) ∷ z) (sym (node_tail n.source n.unit))))))
 
-  pub link-complete : (st : Stage) → next_stage st Line ≡ Some Lines → (l : links.Line) → LinkFits c l → Says st c (link_words l) (record { stage = Lines; held = with_line c l; ended = false })
+  pub link_complete : (st : Stage) → next_stage st Line ≡ Some Lines → (l : links.Line) → LinkFits c l → Says st c (link_words l) (record { stage = Lines; held = with_line c l; ended = false })
   unfolding spelling all_letters
-  link-complete st due l h =
+  link_complete st due l h =
       let p = and_parts (ltb (length c.lines) 48) (ltb l.start (length c.nodes) && bus_at c l.end) h.0 in
       let q = and_parts (ltb l.start (length c.nodes)) (bus_at c l.end) p.1 in
       (name (codes "line"), _, refl, (Lines, due, (with_line c l, refl, (l, refl, p.0, h.1, q.0, h.2, q.1, h.3, refl))))
 
-  pub end-complete : (st : Stage) → next_stage st End ≡ Some st → Says st c end_words (record { stage = st; held = c; ended = true })
+  pub end_complete : (st : Stage) → next_stage st End ≡ Some st → Says st c end_words (record { stage = st; held = c; ended = true })
   unfolding spelling all_letters
-  end-complete st due = (name (codes "end"), [], refl, (st, due, (c, refl, (refl, refl))))
+  end_complete st due = (name (codes "end"), [], refl, (st, due, (c, refl, (refl, refl))))
 
-  pub session-complete : (r : ℕ) → 8000 ≤ r → r ≤ 192000 → Says AtHead c (session_words r) (record { stage = Units; held = with_rate c r; ended = false })
+  pub session_complete : (r : ℕ) → 8000 ≤ r → r ≤ 192000 → Says AtHead c (session_words r) (record { stage = Units; held = with_rate c r; ended = false })
   unfolding spelling all_letters all_digits
-  session-complete r lo hi = (name (codes "session"), _, refl, (Units, refl, (with_rate c r, refl, (r, refl, lo, hi, refl))))
+  session_complete r lo hi = (name (codes "session"), _, refl, (Units, refl, (with_rate c r, refl, (r, refl, lo, hi, refl))))
 
 -- the words of lines have known bytes
 all_plain : List ℕ → Bool
@@ -231,7 +231,7 @@ good_sort (a_delay a) h = (good_key (codes "delay") refl, (good_decimal a (omega
 
 pub good_setup : (c : Contents) (x : Setup) → SetupFits c x → All Good (setup_words x)
 unfolding all_plain
-good_setup c (sets s k) h = let m = unit-most c s k (and_parts (fits_unit s (made k)) (not (is_set c s)) h.0).0 in (good_key (codes "unit") refl, (good_decimal s (omega arith), good_sort k h.1))
+good_setup c (sets s k) h = let m = unit_most c s k (and_parts (fits_unit s (made k)) (not (is_set c s)) h.0).0 in (good_key (codes "unit") refl, (good_decimal s (omega arith), good_sort k h.1))
 good_setup c (trims s g) h = let m = h.0 in (good_key (codes "layer") refl, (good_decimal s (omega arith), (good_key (codes "trim") refl, (good_signed g h.2, tt))))
 good_setup c (bypasses s) h = let m = h.0 in (good_key (codes "layer") refl, (good_decimal s (omega arith), (good_key (codes "bypass") refl, tt)))
 

@@ -37,11 +37,11 @@ join_split m (x ∷ xs) = go (eqb x m) refl (split m xs) refl (join_split m xs)
   where
     some : (m x : ℕ) (xs : List ℕ) (b : Bool) → cond b ([] ∷ split m xs) (lengthen x (split m xs)) ≡ [] → ⊥
     some m x xs true e = nil_not (sym e)
-    some m x xs false e = some-lengthen (split m xs) e
+    some m x xs false e = some_lengthen (split m xs) e
       where
-        some-lengthen : (ps : List (List ℕ)) → lengthen x ps ≡ [] → ⊥
-        some-lengthen [] e = nil_not (sym e)
-        some-lengthen (p ∷ ps) e = nil_not (sym e)
+        some_lengthen : (ps : List (List ℕ)) → lengthen x ps ≡ [] → ⊥
+        some_lengthen [] e = nil_not (sym e)
+        some_lengthen (p ∷ ps) e = nil_not (sym e)
 
     never : (xs : List ℕ) → split m xs ≡ [] → ⊥
     never [] e = nil_not (sym e)

@@ -15,9 +15,9 @@ unfolding lines_read
 lines_none row st c = refl
 
 module _ (row : ℕ) (st : Stage) (c : Contents) (l : List ℕ) (ls : List (List ℕ)) where
-  pub lines-err : (e : ReadFault) → line_read row st c l (is_nil ls) ≡ Err e → lines_read row st c (l ∷ ls) ≡ Err e
+  pub lines_err : (e : ReadFault) → line_read row st c l (is_nil ls) ≡ Err e → lines_read row st c (l ∷ ls) ≡ Err e
   unfolding lines_read
-  lines-err e h = ap (λ r. passes r (λ t. cond t.ended (closed row ls t.held) (lines_read (row + 1) t.stage t.held ls))) h
+  lines_err e h = ap (λ r. passes r (λ t. cond t.ended (closed row ls t.held) (lines_read (row + 1) t.stage t.held ls))) h
 
   module _ (t : Turned) (h : line_read row st c l (is_nil ls) ≡ Ok t) where
     step : lines_read row st c (l ∷ ls) ≡ cond t.ended (closed row ls t.held) (lines_read (row + 1) t.stage t.held ls)

@@ -116,10 +116,10 @@ pub line_sound : (row : ℕ) (st : Stage) (c : Contents) (l : List ℕ) (last : 
 line_sound row st c l last t h = first (last || ltb (known_run l) (length l)) refl h
   where
     third : (r : Result (Turned × Cursor) ReadFault) → whole_turn st c (line_words row l) ≡ r → value_of r ≡ Ok t → Says st c (split 32 l) t
-    third (Ok p) e h = subst (Head (TurnWords st c) t) (words_placed (split 32 l) row 1) ((ends_whole st c).sound (line_words row l) t p.1 (e ∙ ap (λ x. Ok (x, p.1)) (value-is h)))
+    third (Ok p) e h = subst (Head (TurnWords st c) t) (words_placed (split 32 l) row 1) ((ends_whole st c).sound (line_words row l) t p.1 (e ∙ ap (λ x. Ok (x, p.1)) (value_is h)))
       where
-        value-is : {x y : Turned} → ◌≡◌ {A = Result Turned ReadFault} (Ok x) (Ok y) → x ≡ y
-        value-is h = cc
+        value_is : {x y : Turned} → ◌≡◌ {A = Result Turned ReadFault} (Ok x) (Ok y) → x ≡ y
+        value_is h = cc
     third (Err f) e h = absurd (not_ok h)
 
     second : (r : Result (Unit {0}) ReadFault) → passes r (λ _. value_of (whole_turn st c (line_words row l))) ≡ Ok t → Says st c (split 32 l) t

@@ -7,7 +7,7 @@ use Rattle.std.proofs.ByRecursion.{All-append}
 use Rattle.std.proofs.lemmas.List.{length_push}
 use Rattle.std.proofs.lemmas.Bool.{cases_Bool, cond-false, cond-true, false≢true, le-leb, leb-true}
 use Rattle.std.specs.List.{flat_map, AllByRecursion as All}
-use Rattle.text.proofs.Commands.{FirstIs, end-complete, first_is, good_end, good_link, good_node, good_session, good_setup, layer-sound, link-complete, link-sound, node-complete, node-sound, session-complete, session-sound, setup-complete, unit-sound}
+use Rattle.text.proofs.Commands.{FirstIs, end_complete, first_is, good_end, good_link, good_node, good_session, good_setup, layer_sound, link_complete, link_sound, node_complete, node_sound, session_complete, session_sound, setup_complete, unit_sound}
 use Rattle.text.proofs.Grammar.{nil_not, none_is, not_ok, some_is}
 use Rattle.text.proofs.Joining.{Free, join, join_split, line_join, lines_join, marked, split_join}
 use Rattle.text.proofs.Lines.{lines_end, lines_more, lines_none}
@@ -86,11 +86,11 @@ module _ (c : Contents) (row : ℕ) (ls : List (List ℕ)) (h : Contents) where
 
   module _ (ps : List (List ℕ)) (w : Spelling) (vs : List Spelling) (e : map spelling ps ≡ w ∷ vs) where
     -- the line is these words
-    is-line : (v : Spelling) (qs : List (List ℕ)) → w ≡ v → v ∷ vs ≡ map spelling qs → line_bytes ps ≡ line_bytes qs
-    is-line v qs a b = ap line_bytes (same_words ps qs (e ∙ ap (λ z. z ∷ vs) a ∙ b))
+    is_line : (v : Spelling) (qs : List (List ℕ)) → w ≡ v → v ∷ vs ≡ map spelling qs → line_bytes ps ≡ line_bytes qs
+    is_line v qs a b = ap line_bytes (same_words ps qs (e ∙ ap (λ z. z ∷ vs) a ∙ b))
 
-    by-setup : (d : Contents) (next : Stage) → Units ≡ next → (x : Setup) → SetupFits c x → d ≡ after_setup c x → line_bytes ps ≡ line_bytes (setup_words x) → Rest next d ls h → RestUnits c (line_bytes ps ∷ ls) h
-    by-setup d next n x f de l r =
+    by_setup : (d : Contents) (next : Stage) → Units ≡ next → (x : Setup) → SetupFits c x → d ≡ after_setup c x → line_bytes ps ≡ line_bytes (setup_words x) → Rest next d ls h → RestUnits c (line_bytes ps ∷ ls) h
+    by_setup d next n x f de l r =
         let q : RestUnits (after_setup c x) ls h = subst (λ y. RestUnits y ls h) de (subst (λ s. Rest s d ls h) (sym n) r) in
         (x ∷ q.0, q.1, q.2, q.3, (f, q.4), q.5, q.6, q.7, ap₂ ◌∷◌ l (q.8 ∙ ap (λ ns. pieces_of (map setup_words q.0 ++ (nodes_words (length ns) q.1 ++ tail_words q.2))) (same_nodes c x)))
 
@@ -102,8 +102,8 @@ module _ (c : Contents) (row : ℕ) (ls : List (List ℕ)) (h : Contents) where
         let q : RestNodes (with_node c m) ls h = subst (λ y. RestNodes y ls h) de (subst (λ s. Rest s d ls h) (sym n) r) in
         (m ∷ q.0, q.1, omega arith, (f, q.2), q.3, q.4, ap₂ ◌∷◌ l (q.5 ∙ ap (λ k. pieces_of (nodes_words k q.0 ++ tail_words q.1)) (length_push c.nodes m)))
 
-    by-link : (d : Contents) (next : Stage) → Lines ≡ next → (x : links.Line) → LinkFits c x → d ≡ with_line c x → line_bytes ps ≡ line_bytes (link_words x) → Rest next d ls h → RestLines c (line_bytes ps ∷ ls) h
-    by-link d next n x f de l r =
+    by_link : (d : Contents) (next : Stage) → Lines ≡ next → (x : links.Line) → LinkFits c x → d ≡ with_line c x → line_bytes ps ≡ line_bytes (link_words x) → Rest next d ls h → RestLines c (line_bytes ps ∷ ls) h
+    by_link d next n x f de l r =
         let q : RestLines (with_line c x) ls h = subst (λ y. RestLines y ls h) de (subst (λ s. Rest s d ls h) (sym n) r) in
         (x ∷ q.0, (f, q.1), q.2, ap₂ ◌∷◌ l q.3)
 
@@ -111,18 +111,18 @@ module _ (c : Contents) (row : ℕ) (ls : List (List ℕ)) (h : Contents) where
     by_end d de l r = let q = closed_sound row ls d h r in ([], tt, q.1 ∙ de, ap₂ ◌∷◌ l q.0)
 
     -- among nodes, lines or the end may follow at once
-    no-nodes : RestLines c (line_bytes ps ∷ ls) h → RestNodes c (line_bytes ps ∷ ls) h
+    no_nodes : RestLines c (line_bytes ps ∷ ls) h → RestNodes c (line_bytes ps ∷ ls) h
     unfolding nodes_words
-    no-nodes q = ([], q.0, tt, q.1, q.2, q.3)
+    no_nodes q = ([], q.0, tt, q.1, q.2, q.3)
 
     end_line : vs ≡ [] → FirstIs End w → line_bytes ps ≡ line_bytes end_words
     unfolding spelling all_letters
-    end_line n fw = is-line (name (codes "end")) end_words fw (ap (λ z. name (codes "end") ∷ z) n)
+    end_line n fw = is_line (name (codes "end")) end_words fw (ap (λ z. name (codes "end") ∷ z) n)
 
     step : (st : Stage) (f : firsts.First) (next : Stage) (d : Contents) → FirstIs f w → next_stage st f ≡ Some next → TurnRest f c d vs → After f next d → Rest st c (line_bytes ps ∷ ls) h
     step Head Session next d fw n t a =
-        let s = session-sound c d vs t in
-        (s.0, s.1, s.2, ls, ap (λ z. z ∷ ls) (is-line _ (session_words s.0) fw s.4), subst (λ y. RestUnits y ls h) s.3 (subst (λ s. Rest s d ls h) (sym (some_is n)) a))
+        let s = session_sound c d vs t in
+        (s.0, s.1, s.2, ls, ap (λ z. z ∷ ls) (is_line _ (session_words s.0) fw s.4), subst (λ y. RestUnits y ls h) s.3 (subst (λ s. Rest s d ls h) (sym (some_is n)) a))
     step Head Unit next d fw n t a = absurd (none_is n)
     step Head Layer next d fw n t a = absurd (none_is n)
     step Head Node next d fw n t a = absurd (none_is n)
@@ -130,31 +130,31 @@ module _ (c : Contents) (row : ℕ) (ls : List (List ℕ)) (h : Contents) where
     step Head End next d fw n t a = absurd (none_is n)
     step Head Other next d fw n t a = absurd (none_is n)
     step Units Session next d fw n t a = absurd (none_is n)
-    step Units Unit next d fw n t a = let s = unit-sound c d vs t in by-setup d next (some_is n) s.0 s.1 s.2 (is-line _ (setup_words s.0) fw s.3) a
-    step Units Layer next d fw n t a = let s = layer-sound c d vs t in by-setup d next (some_is n) s.0 s.1 s.2 (is-line _ (setup_words s.0) fw s.3) a
-    step Units Node next d fw n t a = let s = node-sound c d vs t in let q = by_node d next (some_is n) s.0 s.1 s.2 (is-line _ (node_words (length c.nodes) s.0) fw s.3) a in ([], q.0, q.1, q.2, tt, q.3, q.4, q.5, q.6)
+    step Units Unit next d fw n t a = let s = unit_sound c d vs t in by_setup d next (some_is n) s.0 s.1 s.2 (is_line _ (setup_words s.0) fw s.3) a
+    step Units Layer next d fw n t a = let s = layer_sound c d vs t in by_setup d next (some_is n) s.0 s.1 s.2 (is_line _ (setup_words s.0) fw s.3) a
+    step Units Node next d fw n t a = let s = node_sound c d vs t in let q = by_node d next (some_is n) s.0 s.1 s.2 (is_line _ (node_words (length c.nodes) s.0) fw s.3) a in ([], q.0, q.1, q.2, tt, q.3, q.4, q.5, q.6)
     step Units Line next d fw n t a = absurd (none_is n)
     step Units End next d fw n t a = absurd (none_is n)
     step Units Other next d fw n t a = absurd (none_is n)
     step Nodes Session next d fw n t a = absurd (none_is n)
     step Nodes Unit next d fw n t a = absurd (none_is n)
     step Nodes Layer next d fw n t a = absurd (none_is n)
-    step Nodes Node next d fw n t a = let s = node-sound c d vs t in let q = by_node d next (some_is n) s.0 s.1 s.2 (is-line _ (node_words (length c.nodes) s.0) fw s.3) a in (q.0, q.1, q.3, q.4, q.5, q.6)
-    step Nodes Line next d fw n t a = let s = link-sound c d vs t in no-nodes (by-link d next (some_is n) s.0 s.1 s.2 (is-line _ (link_words s.0) fw s.3) a)
-    step Nodes End next d fw n t a = no-nodes (by_end d t.0 (end_line t.1 fw) a)
+    step Nodes Node next d fw n t a = let s = node_sound c d vs t in let q = by_node d next (some_is n) s.0 s.1 s.2 (is_line _ (node_words (length c.nodes) s.0) fw s.3) a in (q.0, q.1, q.3, q.4, q.5, q.6)
+    step Nodes Line next d fw n t a = let s = link_sound c d vs t in no_nodes (by_link d next (some_is n) s.0 s.1 s.2 (is_line _ (link_words s.0) fw s.3) a)
+    step Nodes End next d fw n t a = no_nodes (by_end d t.0 (end_line t.1 fw) a)
     step Nodes Other next d fw n t a = absurd (none_is n)
     step Lines Session next d fw n t a = absurd (none_is n)
     step Lines Unit next d fw n t a = absurd (none_is n)
     step Lines Layer next d fw n t a = absurd (none_is n)
     step Lines Node next d fw n t a = absurd (none_is n)
-    step Lines Line next d fw n t a = let s = link-sound c d vs t in (by-link d next (some_is n) s.0 s.1 s.2 (is-line _ (link_words s.0) fw s.3) a)
+    step Lines Line next d fw n t a = let s = link_sound c d vs t in (by_link d next (some_is n) s.0 s.1 s.2 (is_line _ (link_words s.0) fw s.3) a)
     step Lines End next d fw n t a = (by_end d t.0 (end_line t.1 fw) a)
     step Lines Other next d fw n t a = absurd (none_is n)
 
-  sound-line : (st : Stage) (l : List ℕ) → ((row : ℕ) (st : Stage) (d : Contents) → lines_read row st d ls ≡ Ok h → Rest st d ls h) → (r : Result Turned ReadFault) → line_read row st c l (is_nil ls) ≡ r
+  sound_line : (st : Stage) (l : List ℕ) → ((row : ℕ) (st : Stage) (d : Contents) → lines_read row st d ls ≡ Ok h → Rest st d ls h) → (r : Result Turned ReadFault) → line_read row st c l (is_nil ls) ≡ r
       → passes r (λ t. cond t.ended (closed row ls t.held) (lines_read (row + 1) t.stage t.held ls)) ≡ Ok h → Rest st c (l ∷ ls) h
-  sound-line st l ih (Err f) e q = absurd (not_ok q)
-  sound-line st l ih (Ok t) e q =
+  sound_line st l ih (Err f) e q = absurd (not_ok q)
+  sound_line st l ih (Ok t) e q =
       let s = (line_sound row st c l (is_nil ls) t e).1 in
       let w = s.0 in
       let next = s.3.0 in
@@ -170,7 +170,7 @@ module _ (c : Contents) (row : ℕ) (ls : List (List ℕ)) (h : Contents) where
 pub rest_sound : (ls : List (List ℕ)) (h : Contents) (row : ℕ) (st : Stage) (c : Contents) → lines_read row st c ls ≡ Ok h → Rest st c ls h
 unfolding lines_read
 rest_sound [] h row st c e = absurd (not_ok e)
-rest_sound (l ∷ ls) h row st c e = sound-line c row ls h st l (rest_sound ls h) (line_read row st c l (is_nil ls)) refl e
+rest_sound (l ∷ ls) h row st c e = sound_line c row ls h st l (rest_sound ls h) (line_read row st c l (is_nil ls)) refl e
 
 -- the other way round
 more_follows : {X : Type 0} (xs : List X) (y : X) → is_nil (xs ++ (y ∷ [])) ≡ false
@@ -185,16 +185,16 @@ module _ (row : ℕ) (st : Stage) (c : Contents) (w : List ℕ) (ws : List (List
 
 pub tail_complete : (xs : List links.Line) (row : ℕ) (st : Stage) (c : Contents) → next_stage st Line ≡ Some Lines → next_stage st End ≡ Some st → AllFit LinkFits with_line c xs → lines_read row st c (pieces_of (tail_words xs)) ≡ Ok (after_all with_line c xs)
 tail_complete [] row st c a b f =
-    lines_end row st c (line_bytes end_words) ([] ∷ []) (record { stage = st; held = c; ended = true }) (line_complete row st c _ _ _ good_end (end-complete c st b)) refl
+    lines_end row st c (line_bytes end_words) ([] ∷ []) (record { stage = st; held = c; ended = true }) (line_complete row st c _ _ _ good_end (end_complete c st b)) refl
 tail_complete (x ∷ xs) row st c a b f =
-    go_on row st c _ _ (tail_words xs) Lines (with_line c x) (good_link c x f.0) (link-complete c st a x f.0) ∙ tail_complete xs (row + 1) Lines (with_line c x) refl refl f.1
+    go_on row st c _ _ (tail_words xs) Lines (with_line c x) (good_link c x f.0) (link_complete c st a x f.0) ∙ tail_complete xs (row + 1) Lines (with_line c x) refl refl f.1
 
 pub nodes_complete : (ns : List nodes.Node) (xs : List links.Line) (row : ℕ) (c : Contents) → AllFit NodeFits with_node c ns → AllFit LinkFits with_line (after_all with_node c ns) xs
     → lines_read row Nodes c (pieces_of (nodes_words (length c.nodes) ns ++ tail_words xs)) ≡ Ok (after_all with_line (after_all with_node c ns) xs)
 unfolding nodes_words
 nodes_complete [] xs row c f g = tail_complete xs row Nodes c refl refl g
 nodes_complete (n ∷ ns) xs row c f g =
-    go_on row Nodes c _ _ (nodes_words (length c.nodes + 1) ns ++ tail_words xs) Nodes (with_node c n) (good_node c n f.0) (node-complete c Nodes refl n f.0)
+    go_on row Nodes c _ _ (nodes_words (length c.nodes + 1) ns ++ tail_words xs) Nodes (with_node c n) (good_node c n f.0) (node_complete c Nodes refl n f.0)
     ∙ ap (λ k. lines_read (row + 1) Nodes (with_node c n) (pieces_of (nodes_words k ns ++ tail_words xs))) (sym (length_push c.nodes n))
     ∙ nodes_complete ns xs (row + 1) (with_node c n) f.1 g
 
@@ -203,7 +203,7 @@ first_node : (ns : List nodes.Node) (xs : List links.Line) (row : ℕ) (c : Cont
 unfolding nodes_words
 first_node [] xs row c s f g = absurd (omega arith)
 first_node (n ∷ ns) xs row c s f g =
-    go_on row Units c _ _ (nodes_words (length c.nodes + 1) ns ++ tail_words xs) Nodes (with_node c n) (good_node c n f.0) (node-complete c Units refl n f.0)
+    go_on row Units c _ _ (nodes_words (length c.nodes + 1) ns ++ tail_words xs) Nodes (with_node c n) (good_node c n f.0) (node_complete c Units refl n f.0)
     ∙ ap (λ k. lines_read (row + 1) Nodes (with_node c n) (pieces_of (nodes_words k ns ++ tail_words xs))) (sym (length_push c.nodes n))
     ∙ nodes_complete ns xs (row + 1) (with_node c n) f.1 g
 
@@ -225,13 +225,13 @@ units_complete (x ∷ ss) ns xs row c s f g k =
     rest = map setup_words ss ++ (nodes_words (length c.nodes) ns ++ tail_words xs)
 
     one : (x : Setup) → SetupFits c x → lines_read row Units c (pieces_of (setup_words x ∷ rest)) ≡ lines_read (row + 1) Units (after_setup c x) (pieces_of rest)
-    one (sets t k) f = go_on row Units c _ _ rest Units (after_setup c (sets t k)) (good_setup c (sets t k) f) (setup-complete c (sets t k) f)
-    one (trims t g) f = go_on row Units c _ _ rest Units (after_setup c (trims t g)) (good_setup c (trims t g) f) (setup-complete c (trims t g) f)
-    one (bypasses t) f = go_on row Units c _ _ rest Units (after_setup c (bypasses t)) (good_setup c (bypasses t) f) (setup-complete c (bypasses t) f)
+    one (sets t k) f = go_on row Units c _ _ rest Units (after_setup c (sets t k)) (good_setup c (sets t k) f) (setup_complete c (sets t k) f)
+    one (trims t g) f = go_on row Units c _ _ rest Units (after_setup c (trims t g)) (good_setup c (trims t g) f) (setup_complete c (trims t g) f)
+    one (bypasses t) f = go_on row Units c _ _ rest Units (after_setup c (bypasses t)) (good_setup c (bypasses t) f) (setup_complete c (bypasses t) f)
 
 pub lines_complete : (s : Script) → WellFormed s → lines_read 1 Head no_contents (pieces_of (script_words s)) ≡ Ok (said s)
 lines_complete s f =
-    go_on 1 Head no_contents _ _ (map setup_words s.setups ++ (nodes_words 0 s.nodes ++ tail_words s.lines)) Units (with_rate no_contents s.rate) (good_session s.rate f.most_rate) (session-complete no_contents s.rate f.least_rate f.most_rate)
+    go_on 1 Head no_contents _ _ (map setup_words s.setups ++ (nodes_words 0 s.nodes ++ tail_words s.lines)) Units (with_rate no_contents s.rate) (good_session s.rate f.most_rate) (session_complete no_contents s.rate f.least_rate f.most_rate)
     ∙ units_complete s.setups s.nodes s.lines 2 (with_rate no_contents s.rate) f.some_node f.setups_fit f.nodes_fit f.lines_fit
 
 -- no line of a script has 0A inside

@@ -9,10 +9,10 @@ unfolding spaces_check
 spaces_none row c = refl
 
 module _ (row c : ℕ) (p : List ℕ) (ps : List (List ℕ)) where
-  pub spaces-gap : eqb (length p) 0 ≡ true → spaces_check row c (p ∷ ps) ≡ Err (Space (record { line = row; column = c }))
+  pub spaces_gap : eqb (length p) 0 ≡ true → spaces_check row c (p ∷ ps) ≡ Err (Space (record { line = row; column = c }))
   unfolding spaces_check
-  spaces-gap e = cond-true _ _ _ e
+  spaces_gap e = cond-true _ _ _ e
 
-  pub spaces-more : eqb (length p) 0 ≡ false → spaces_check row c (p ∷ ps) ≡ spaces_check row (c + length p + 1) ps
+  pub spaces_more : eqb (length p) 0 ≡ false → spaces_check row c (p ∷ ps) ≡ spaces_check row (c + length p + 1) ps
   unfolding spaces_check
-  spaces-more e = cond-false _ _ _ e
+  spaces_more e = cond-false _ _ _ e

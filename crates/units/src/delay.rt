@@ -3,7 +3,7 @@ ghost use Rattle.std.specs.Prelude.{◌≡◌, refl};
 ghost use Rattle.frames.specs.Samples.{silence};
 ghost use Rattle.units.specs.Heard.{heard};
 ghost use Rattle.units.specs.Meanings.{delay_meaning, Rests};
-ghost use Rattle.voices.proofs.Pasts.{rule-lawful};
+ghost use Rattle.voices.proofs.Pasts.{rule_lawful};
 ghost use Rattle.voices.specs.Kinds.{delay_rule, delay_unit};
 
 use crate::interface::Unit;
@@ -46,7 +46,7 @@ impl Unit for Delay {
 
     ghost meaning = { delay_meaning };
 
-    ghost lawful = { λ u. rule-lawful silence (delay_rule u.settings.frames) 0 (heard u.past) zero-le refl };
+    ghost lawful = { λ u. rule_lawful silence (delay_rule u.settings.frames) 0 (heard u.past) zero-le refl };
 
     ghost within = { λ u. zero-le };
 

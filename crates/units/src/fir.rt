@@ -4,7 +4,7 @@ ghost use Rattle.units.specs.Heard.{heard};
 ghost use Rattle.units.specs.Meanings.{fir_meaning, Rests, Steps};
 ghost use Rattle.units.specs.Taps.{taps_of, tapped};
 ghost use Rattle.voices.proofs.KindLaws.{fir_late, fir_late_bound, fir_silent};
-ghost use Rattle.voices.proofs.Pasts.{rule-lawful};
+ghost use Rattle.voices.proofs.Pasts.{rule_lawful};
 ghost use Rattle.voices.specs.Kinds.{fir_rule, fir_unit};
 ghost use Rattle.voices.specs.Rules.{by_rule};
 
@@ -104,7 +104,7 @@ impl Unit for Fir {
 
     ghost meaning = { fir_meaning };
 
-    ghost lawful = { λ u. rule-lawful silence (fir_rule (taps_of u.settings)) ((u.settings.count - 1) / 2) (heard u.past) (fir_late_bound u.settings.count u.settings.range.1) (fir_silent (taps_of u.settings)) };
+    ghost lawful = { λ u. rule_lawful silence (fir_rule (taps_of u.settings)) ((u.settings.count - 1) / 2) (heard u.past) (fir_late_bound u.settings.count u.settings.range.1) (fir_silent (taps_of u.settings)) };
 
     ghost within = { λ u. fir_late u.settings.count u.settings.range.1 };
 

@@ -4,7 +4,7 @@ ghost use Rattle.units.specs.Heard.{heard};
 ghost use Rattle.units.specs.Limits.{limited, peak_within, reduced, size};
 ghost use Rattle.units.specs.Meanings.{limit_meaning, Rests, Steps};
 ghost use Rattle.voices.proofs.KindLaws.{limit_silent};
-ghost use Rattle.voices.proofs.Pasts.{rule-lawful};
+ghost use Rattle.voices.proofs.Pasts.{rule_lawful};
 ghost use Rattle.voices.specs.Kinds.{limit_rule, limit_unit};
 
 use crate::interface::Unit;
@@ -106,7 +106,7 @@ impl Unit for Limit {
 
     ghost meaning = { limit_meaning };
 
-    ghost lawful = { λ u. rule-lawful silence (limit_rule u.settings.lookahead u.settings.ceiling) u.settings.lookahead (heard u.past) u.settings.range.0 (limit_silent u.settings.lookahead u.settings.ceiling) };
+    ghost lawful = { λ u. rule_lawful silence (limit_rule u.settings.lookahead u.settings.ceiling) u.settings.lookahead (heard u.past) u.settings.range.0 (limit_silent u.settings.lookahead u.settings.ceiling) };
 
     ghost within = { λ u. u.settings.range.0 };
 

@@ -5,7 +5,7 @@ use Rattle.frames.specs.Samples.{clamped, divided, scaled, silence, total}
 use Rattle.frames.specs.declared.samples.Frame.{Frame}
 use Rattle.std.proofs.lemmas.List.{length-map, map-append, take-map}
 use Rattle.std.specs.List.{range_with_len}
-use Rattle.voices.proofs.Pasts.{rule-lawful}
+use Rattle.voices.proofs.Pasts.{rule_lawful}
 use Rattle.voices.specs.Kinds.{delay_rule, fir_rule, greatest, limit_rule, pan_rule, pan_unit, trim_over, trimmed, weight}
 use Rattle.voices.specs.Meaning.{Meaning, Lawful}
 use Rattle.voices.specs.Rules.{by_rule_after}
@@ -42,7 +42,7 @@ pan_silent position = ap₂ (λ l r. record { left = l; right = r }) (scaled_not
 -- a pan is always at rest
 pub pan_lawful : (position : ℕ) → Lawful silence (pan_unit position)
 pan_lawful position =
-    let l = rule-lawful silence (pan_rule position) 0 (λ _. silence) zero-le (pan_silent position) in
+    let l = rule_lawful silence (pan_rule position) 0 (λ _. silence) zero-le (pan_silent position) in
     record {
       late_bound = l.late_bound;
       voice_length = l.voice_length;
@@ -69,7 +69,7 @@ trim_lawful gain m l = record {
 
 -- what a bypass means when it has heard a past
 pub bypass_lawful : (on : Bool) (past : ℕ → Frame) (m : Meaning Frame) → Lawful silence m → Lawful silence (cond on (by_rule_after silence m.late (delay_rule m.late) past) m)
-bypass_lawful true past m l = rule-lawful silence (delay_rule m.late) m.late past l.late_bound refl
+bypass_lawful true past m l = rule_lawful silence (delay_rule m.late) m.late past l.late_bound refl
 bypass_lawful false past m l = l
 
 pub bypass_within : (on : Bool) (past : ℕ → Frame) (m : Meaning Frame) (most : ℕ) → m.late ≤ most → (cond on (by_rule_after silence m.late (delay_rule m.late) past) m).late ≤ most

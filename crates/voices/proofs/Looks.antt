@@ -8,7 +8,7 @@ use Rattle.frames.proofs.Totals.{total_push}
 use Rattle.std.proofs.lemmas.List.FromFn.{map-range_with_len_more}
 use Rattle.std.proofs.lemmas.List.{map-id}
 use Rattle.std.specs.List.{range_with_len}
-use Rattle.voices.proofs.Pasts.{after-agree, voice-is-after}
+use Rattle.voices.proofs.Pasts.{after_agree, voice_is_after}
 use Rattle.voices.specs.Kinds.{delay_rule, each_side, fir_rule, greatest, limit_rule, pan_rule, peak}
 use Rattle.voices.specs.Rules.{by_rule, by_rule_after, then_heard, voice_after, voice_by}
 
@@ -74,11 +74,11 @@ pub steps_on : (rule : (ℕ → Frame) → Frame) → Looks 63 rule → (old new
     → (x : List Frame) → voice_after rule old (f ∷ x) ≡ r ∷ voice_after rule new x
 steps_on rule looks old new f r agree e x =
     ap₂ ◌∷◌ (looks (then_heard old f) new (λ k h. sym (agree k (omega arith))) ∙ sym e)
-    (after-agree silence rule 63 looks (then_heard old f) new (λ k h. sym (agree k (omega arith))) x)
+    (after_agree silence rule 63 looks (then_heard old f) new (λ k h. sym (agree k (omega arith))) x)
 
 -- a unit that has heard nothing is at rest
 pub rests : (rule : (ℕ → Frame) → Frame) (past : ℕ → Frame) → past ≡ (λ _. silence) → voice_after rule past ≡ voice_by silence rule
-rests rule past e = ap (voice_after rule) e ∙ fun_ext (λ x. sym (voice-is-after silence rule x))
+rests rule past e = ap (voice_after rule) e ∙ fun_ext (λ x. sym (voice_is_after silence rule x))
 
 pub fresh : (late : ℕ) (rule : (ℕ → Frame) → Frame) (past : ℕ → Frame) → past ≡ (λ _. silence) → by_rule_after silence late rule past ≡ by_rule silence late rule
 fresh late rule past e = ap (λ p. record { late = late; voice = voice_by silence rule; present = p }) (rests rule past e)
@@ -87,9 +87,9 @@ fresh late rule past e = ap (λ p. record { late = late; voice = voice_by silenc
 pub newest_steps : (rule : (ℕ → Frame) → Frame) → Looks 0 rule → (f r : Frame) → r ≡ rule (λ _. f) → (x : List Frame) → voice_by silence rule (f ∷ x) ≡ r ∷ voice_by silence rule x
 newest_steps rule looks f r e x =
     let newest : (k : ℕ) → k ≤ 0 → then_heard (λ _. silence) f k ≡ f = at in
-    voice-is-after silence rule (f ∷ x)
+    voice_is_after silence rule (f ∷ x)
     ∙ ap₂ ◌∷◌ (looks (then_heard (λ _. silence) f) (λ _. f) newest ∙ sym e)
-    (after-agree silence rule 0 looks (then_heard (λ _. silence) f) (λ _. silence) (λ k h. absurd (omega arith)) x ∙ sym (voice-is-after silence rule x))
+    (after_agree silence rule 0 looks (then_heard (λ _. silence) f) (λ _. silence) (λ k h. absurd (omega arith)) x ∙ sym (voice_is_after silence rule x))
   where
     at : (k : ℕ) → k ≤ 0 → then_heard (λ _. silence) f k ≡ f
     at zero h = refl

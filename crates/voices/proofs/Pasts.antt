@@ -24,16 +24,16 @@ module _ {X : Type 0} (quiet : X) where
   unfolding back_after
   back_inside past x n k h = cond-true (leb k n) _ _ (le-leb k n h)
 
-  back-before : (past : ℕ → X) (x : List X) (n k : ℕ) → n < k → back_after quiet past x n k ≡ past (k - n - 1)
+  back_before : (past : ℕ → X) (x : List X) (n k : ℕ) → n < k → back_after quiet past x n k ≡ past (k - n - 1)
   unfolding back_after
-  back-before past x n k h = cond-false (leb k n) _ _ (lt-leb k n h)
+  back_before past x n k h = cond-false (leb k n) _ _ (lt-leb k n h)
 
   first_back : (past : ℕ → X) (f : X) (x : List X) (k : ℕ) → then_heard past f k ≡ back_after quiet past (f ∷ x) 0 k
   first_back past f x zero = sym (back_inside past (f ∷ x) 0 0 (omega arith))
-  first_back past f x (suc k) = ap past (omega arith) ∙ sym (back-before past (f ∷ x) 0 (suc k) (omega arith))
+  first_back past f x (suc k) = ap past (omega arith) ∙ sym (back_before past (f ∷ x) 0 (suc k) (omega arith))
 
-  next-back : (past : ℕ → X) (f : X) (x : List X) (n k : ℕ) → back_after quiet (then_heard past f) x n k ≡ back_after quiet past (f ∷ x) (suc n) k
-  next-back past f x n k = ⊎_elim inside (⊎_elim at before) (cases k n)
+  next_back : (past : ℕ → X) (f : X) (x : List X) (n k : ℕ) → back_after quiet (then_heard past f) x n k ≡ back_after quiet past (f ∷ x) (suc n) k
+  next_back past f x n k = ⊎_elim inside (⊎_elim at before) (cases k n)
     where
       cases : (k n : ℕ) → (k ≤ n) ⊎ ((k ≡ suc n) ⊎ (suc n < k))
       cases k n = ⊎_elim (λ h. inr (⊎_elim inl (⊎_elim (λ l. absurd (omega arith)) inr) (cases_order k (suc n)))) inl (cases_lt n k)
@@ -47,61 +47,61 @@ module _ {X : Type 0} (quiet : X) where
       at h =
           let p : k - n - 1 ≡ 0 = omega arith in
           let q : suc n - k ≡ 0 = omega arith in
-          back-before (then_heard past f) x n k (omega arith) ∙ ap (then_heard past f) p ∙ sym (ap (λ i. get_or (f ∷ x) i quiet) q) ∙ sym (back_inside past (f ∷ x) (suc n) k (omega arith))
+          back_before (then_heard past f) x n k (omega arith) ∙ ap (then_heard past f) p ∙ sym (ap (λ i. get_or (f ∷ x) i quiet) q) ∙ sym (back_inside past (f ∷ x) (suc n) k (omega arith))
 
       before : suc n < k → back_after quiet (then_heard past f) x n k ≡ back_after quiet past (f ∷ x) (suc n) k
       before h =
           let p : k - n - 1 ≡ suc (k - suc n - 1) = omega arith in
-          back-before (then_heard past f) x n k (omega arith) ∙ ap (then_heard past f) p ∙ sym (back-before past (f ∷ x) (suc n) k (omega arith))
+          back_before (then_heard past f) x n k (omega arith) ∙ ap (then_heard past f) p ∙ sym (back_before past (f ∷ x) (suc n) k (omega arith))
 
 module _ {X : Type 0} (quiet : X) (rule : (ℕ → X) → Frame) where
-  after-by-places : (past : ℕ → X) (x : List X) → voice_after rule past x ≡ map (λ n. rule (back_after quiet past x n)) (range_with_len 0 (length x))
-  after-by-places past [] = refl
-  after-by-places past (f ∷ x) =
+  after_by_places : (past : ℕ → X) (x : List X) → voice_after rule past x ≡ map (λ n. rule (back_after quiet past x n)) (range_with_len 0 (length x))
+  after_by_places past [] = refl
+  after_by_places past (f ∷ x) =
       ap₂ ◌∷◌ (ap rule (fun_ext (first_back quiet past f x)))
-      (after-by-places (then_heard past f) x
-      ∙ map_same _ _ (λ n. ap rule (fun_ext (next-back quiet past f x n))) (range_with_len 0 (length x))
+      (after_by_places (then_heard past f) x
+      ∙ map_same _ _ (λ n. ap rule (fun_ext (next_back quiet past f x n))) (range_with_len 0 (length x))
       ∙ sym (map_counting_shift (λ n. rule (back_after quiet past (f ∷ x) n)) 0 (length x)))
 
   -- the voice of a rule, heard frame by frame
-  pub voice-is-after : (x : List X) → voice_by quiet rule x ≡ voice_after rule (λ _. quiet) x
+  pub voice_is_after : (x : List X) → voice_by quiet rule x ≡ voice_after rule (λ _. quiet) x
   unfolding back_after
-  voice-is-after x = sym (after-by-places (λ _. quiet) x)
+  voice_is_after x = sym (after_by_places (λ _. quiet) x)
 
-  pub after-length : (past : ℕ → X) (x : List X) → length (voice_after rule past x) ≡ length x
-  after-length past [] = refl
-  after-length past (f ∷ x) = ap suc (after-length (then_heard past f) x)
+  pub after_length : (past : ℕ → X) (x : List X) → length (voice_after rule past x) ≡ length x
+  after_length past [] = refl
+  after_length past (f ∷ x) = ap suc (after_length (then_heard past f) x)
 
-  after-begins : (past : ℕ → X) (x y : List X) → take (length x) (voice_after rule past (x ++ y)) ≡ voice_after rule past x
-  after-begins past [] y = refl
-  after-begins past (f ∷ x) y = ap (λ l. rule (then_heard past f) ∷ l) (after-begins (then_heard past f) x y)
+  after_begins : (past : ℕ → X) (x y : List X) → take (length x) (voice_after rule past (x ++ y)) ≡ voice_after rule past x
+  after_begins past [] y = refl
+  after_begins past (f ∷ x) y = ap (λ l. rule (then_heard past f) ∷ l) (after_begins (then_heard past f) x y)
 
-  still-quiet : (k : ℕ) → then_heard (λ _. quiet) quiet k ≡ quiet
-  still-quiet zero = refl
-  still-quiet (suc k) = refl
+  still_quiet : (k : ℕ) → then_heard (λ _. quiet) quiet k ≡ quiet
+  still_quiet zero = refl
+  still_quiet (suc k) = refl
 
-  after-waits : rule (λ _. quiet) ≡ silence → (k : ℕ) (x : List X) → voice_after rule (λ _. quiet) (replicate k quiet ++ x) ≡ replicate k silence ++ voice_after rule (λ _. quiet) x
-  after-waits e zero x = refl
-  after-waits e (suc k) x =
-      let q : then_heard (λ _. quiet) quiet ≡ (λ (_ : ℕ). quiet) = fun_ext still-quiet in
-      ap₂ ◌∷◌ (ap rule q ∙ e) (ap (λ p. voice_after rule p (replicate k quiet ++ x)) q ∙ after-waits e k x)
+  after_waits : rule (λ _. quiet) ≡ silence → (k : ℕ) (x : List X) → voice_after rule (λ _. quiet) (replicate k quiet ++ x) ≡ replicate k silence ++ voice_after rule (λ _. quiet) x
+  after_waits e zero x = refl
+  after_waits e (suc k) x =
+      let q : then_heard (λ _. quiet) quiet ≡ (λ (_ : ℕ). quiet) = fun_ext still_quiet in
+      ap₂ ◌∷◌ (ap rule q ∙ e) (ap (λ p. voice_after rule p (replicate k quiet ++ x)) q ∙ after_waits e k x)
 
   -- a rule that answers silence to silence keeps the laws, whatever was heard before
-  pub rule-lawful : (late : ℕ) (past : ℕ → X) → late ≤ 63 → rule (λ _. quiet) ≡ silence → Lawful quiet (record { late = late; voice = voice_by quiet rule; present = voice_after rule past })
-  rule-lawful late past h e = record {
+  pub rule_lawful : (late : ℕ) (past : ℕ → X) → late ≤ 63 → rule (λ _. quiet) ≡ silence → Lawful quiet (record { late = late; voice = voice_by quiet rule; present = voice_after rule past })
+  rule_lawful late past h e = record {
     late_bound = h;
-    voice_length = λ x. ap length (voice-is-after x) ∙ after-length (λ _. quiet) x;
-    present_length = after-length past;
-    voice_begins = λ x y. ap (take (length x)) (voice-is-after (x ++ y)) ∙ after-begins (λ _. quiet) x y ∙ sym (voice-is-after x);
-    voice_waits = λ k x. voice-is-after (replicate k quiet ++ x) ∙ after-waits e k x ∙ ap (λ l. replicate k silence ++ l) (sym (voice-is-after x));
+    voice_length = λ x. ap length (voice_is_after x) ∙ after_length (λ _. quiet) x;
+    present_length = after_length past;
+    voice_begins = λ x y. ap (take (length x)) (voice_is_after (x ++ y)) ∙ after_begins (λ _. quiet) x y ∙ sym (voice_is_after x);
+    voice_waits = λ k x. voice_is_after (replicate k quiet ++ x) ∙ after_waits e k x ∙ ap (λ l. replicate k silence ++ l) (sym (voice_is_after x));
   }
 
   -- a rule that looks back at most m frames answers alike after pasts that agree on the newest m
-  pub after-agree : (m : ℕ) → ((p q : ℕ → X) → ((k : ℕ) → k ≤ m → p k ≡ q k) → rule p ≡ rule q)
+  pub after_agree : (m : ℕ) → ((p q : ℕ → X) → ((k : ℕ) → k ≤ m → p k ≡ q k) → rule p ≡ rule q)
       → (p q : ℕ → X) → ((k : ℕ) → k < m → p k ≡ q k) → (x : List X) → voice_after rule p x ≡ voice_after rule q x
-  after-agree m looks p q agree [] = refl
-  after-agree m looks p q agree (f ∷ x) =
-      ap₂ ◌∷◌ (looks (then_heard p f) (then_heard q f) now_agree) (after-agree m looks (then_heard p f) (then_heard q f) (λ k h. now_agree k (omega arith)) x)
+  after_agree m looks p q agree [] = refl
+  after_agree m looks p q agree (f ∷ x) =
+      ap₂ ◌∷◌ (looks (then_heard p f) (then_heard q f) now_agree) (after_agree m looks (then_heard p f) (then_heard q f) (λ k h. now_agree k (omega arith)) x)
     where
       now_agree : (k : ℕ) → k ≤ m → then_heard p f k ≡ then_heard q f k
       now_agree zero h = refl

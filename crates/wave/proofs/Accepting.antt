@@ -68,17 +68,17 @@ module _ (rate : ℕ) (bytes : List ℕ) (track : ℕ) (p : TrackPart) where
   abbrev head : List ℕ
   head = head_bytes (frames_in p.length) rate
 
-  abbrev by-head : Option WaveFault
-  by-head = head_fault track (first_other 0 head held)
+  abbrev by_head : Option WaveFault
+  by_head = head_fault track (first_other 0 head held)
 
   abbrev by_length : Option WaveFault
-  by_length = cond (is_file_length p.length) by-head (Some (Length track))
+  by_length = cond (is_file_length p.length) by_head (Some (Length track))
 
   abbrev by_place : Option WaveFault
   by_place = cond (inside (length bytes) p) by_length (Some (Outside track))
 
-  taken-head : inside (length bytes) p ≡ true → is_file_length p.length ≡ true → by-head ≡ None → Taken rate bytes p
-  taken-head i f h =
+  taken_head : inside (length bytes) p ≡ true → is_file_length p.length ≡ true → by_head ≡ None → Taken rate bytes p
+  taken_head i f h =
       let e = and_parts (eqb p.length (44 + 4 * frames_in p.length)) (leb (frames_in p.length) 1048576) f in
       record {
         ends = leb-true (p.start + p.length) (length bytes) i;
@@ -88,25 +88,25 @@ module _ (rate : ℕ) (bytes : List ℕ) (track : ℕ) (p : TrackPart) where
         head = ap (λ n. take n held) (sym (head_length (frames_in p.length) rate)) ∙ same_head 0 head held (no_head_fault track (first_other 0 head held) h);
       }
 
-  taken-length : inside (length bytes) p ≡ true → by_length ≡ None → Taken rate bytes p
-  taken-length i h =
+  taken_length : inside (length bytes) p ≡ true → by_length ≡ None → Taken rate bytes p
+  taken_length i h =
       ⊎_elim
-      (λ f. taken-head i f (sym (cond-true (is_file_length p.length) by-head (Some (Length track)) f) ∙ h))
-      (λ f. some_none (Length track) (sym (cond-false (is_file_length p.length) by-head (Some (Length track)) f) ∙ h))
+      (λ f. taken_head i f (sym (cond-true (is_file_length p.length) by_head (Some (Length track)) f) ∙ h))
+      (λ f. some_none (Length track) (sym (cond-false (is_file_length p.length) by_head (Some (Length track)) f) ∙ h))
       (cases_Bool (is_file_length p.length))
 
-  taken-place : by_place ≡ None → Taken rate bytes p
-  taken-place h =
+  taken_place : by_place ≡ None → Taken rate bytes p
+  taken_place h =
       ⊎_elim
-      (λ i. taken-length i (sym (cond-true (inside (length bytes) p) by_length (Some (Outside track)) i) ∙ h))
+      (λ i. taken_length i (sym (cond-true (inside (length bytes) p) by_length (Some (Outside track)) i) ∙ h))
       (λ i. some_none (Outside track) (sym (cond-false (inside (length bytes) p) by_length (Some (Outside track)) i) ∙ h))
       (cases_Bool (inside (length bytes) p))
 
-  taken-by : part_fault rate bytes track p ≡ None → (p.length ≡ 0) ⊎ Taken rate bytes p
-  taken-by h =
+  taken_by : part_fault rate bytes track p ≡ None → (p.length ≡ 0) ⊎ Taken rate bytes p
+  taken_by h =
       ⊎_elim
       (λ e. inl (eqb-true p.length 0 e))
-      (λ e. inr (taken-place (sym (cond-false (eqb p.length 0) None by_place e) ∙ h)))
+      (λ e. inr (taken_place (sym (cond-false (eqb p.length 0) None by_place e) ∙ h)))
       (cases_Bool (eqb p.length 0))
 
   taken_fine : (p.length ≡ 0) ⊎ Taken rate bytes p → part_fault rate bytes track p ≡ None
@@ -118,7 +118,7 @@ module _ (rate : ℕ) (bytes : List ℕ) (track : ℕ) (p : TrackPart) where
       let file : is_file_length p.length ≡ true = and_from _ _ (eq-eqb p.length (44 + 4 * frames_in p.length) (omega arith)) (le-leb (frames_in p.length) 1048576 (omega arith)) in
       cond-false (eqb p.length 0) None by_place (ne_eqb p.length 0 (λ z. omega arith))
       ∙ cond-true (inside (length bytes) p) by_length (Some (Outside track)) (le-leb (p.start + p.length) (length bytes) t.ends)
-      ∙ cond-true (is_file_length p.length) by-head (Some (Length track)) file
+      ∙ cond-true (is_file_length p.length) by_head (Some (Length track)) file
       ∙ ap₂ (λ k l. head_fault track (first_other 0 (head_bytes k rate) l)) n (sym (take-append-drop 44 held) ∙ ap (λ l. l ++ drop 44 held) t.head)
       ∙ ap (head_fault track) (same_bytes 0 (head_bytes t.frames rate) (drop 44 held))
 
@@ -129,7 +129,7 @@ or_none (Some x) later h = some_none x h
 
 none_each : (rate : ℕ) (bytes : List ℕ) (k : ℕ) (parts : List TrackPart) → parts_fault rate bytes k parts ≡ None → AllTaken rate bytes parts
 none_each rate bytes k [] h i g = absurd (omega arith)
-none_each rate bytes k (p ∷ parts) h zero g = taken-by rate bytes k p (or_none (part_fault rate bytes k p) (parts_fault rate bytes (k + 1) parts) h).0
+none_each rate bytes k (p ∷ parts) h zero g = taken_by rate bytes k p (or_none (part_fault rate bytes k p) (parts_fault rate bytes (k + 1) parts) h).0
 none_each rate bytes k (p ∷ parts) h (suc i) g =
     none_each rate bytes (k + 1) parts (or_none (part_fault rate bytes k p) (parts_fault rate bytes (k + 1) parts) h).1 i (omega arith)
 

@@ -58,16 +58,16 @@ module _ (rate : ℕ) (bytes : List ℕ) (p : TrackPart) (fs : List Frame) (h : 
       let e = ap length h.file in
       omega arith
 
-  part-counts : frames_in p.length ≡ length fs
-  part-counts = let e = part_length in omega arith
+  part_counts : frames_in p.length ≡ length fs
+  part_counts = let e = part_length in omega arith
 
-  part-inside : inside (length bytes) p ≡ true
-  part-inside = le-leb (p.start + p.length) (length bytes) h.ends
+  part_inside : inside (length bytes) p ≡ true
+  part_inside = le-leb (p.start + p.length) (length bytes) h.ends
 
-  part-is-file : is_file_length p.length ≡ true
-  part-is-file =
+  part_is_file : is_file_length p.length ≡ true
+  part_is_file =
       let e = part_length in
-      let n = part-counts in
+      let n = part_counts in
       let few = h.few in
       and_from _ _ (eq-eqb p.length (44 + 4 * frames_in p.length) (omega arith)) (le-leb (frames_in p.length) 1048576 (omega arith))
 
@@ -75,50 +75,50 @@ module _ (rate : ℕ) (bytes : List ℕ) (p : TrackPart) (fs : List Frame) (h : 
   abbrev rest : List ℕ
   rest = drop p.length (drop p.start bytes)
 
-  part-begins : drop p.start bytes ≡ head_bytes (length fs) rate ++ (frames_bytes fs ++ rest)
-  part-begins =
+  part_begins : drop p.start bytes ≡ head_bytes (length fs) rate ++ (frames_bytes fs ++ rest)
+  part_begins =
       sym (take-append-drop p.length (drop p.start bytes)) ∙ ap (λ x. x ++ rest) h.file
       ∙ append_assoc (head_bytes (length fs) rate) (frames_bytes fs) rest
 
-  pub no-part-fault : (track : ℕ) → part_fault rate bytes track p ≡ None
-  no-part-fault track =
+  pub no_part_fault : (track : ℕ) → part_fault rate bytes track p ≡ None
+  no_part_fault track =
       let e = part_length in
       cond-false (eqb p.length 0) _ _ (ne_eqb p.length 0 (λ z. omega arith))
-      ∙ cond-true (inside (length bytes) p) _ _ part-inside
-      ∙ cond-true (is_file_length p.length) _ _ part-is-file
-      ∙ ap₂ (λ n held. head_fault track (first_other 0 (head_bytes n rate) held)) part-counts part-begins
+      ∙ cond-true (inside (length bytes) p) _ _ part_inside
+      ∙ cond-true (is_file_length p.length) _ _ part_is_file
+      ∙ ap₂ (λ n held. head_fault track (first_other 0 (head_bytes n rate) held)) part_counts part_begins
       ∙ ap (head_fault track) (same_bytes 0 (head_bytes (length fs) rate) (frames_bytes fs ++ rest))
 
-  pub frames-back : part_frames bytes p ≡ length fs
-  frames-back =
-      cond-true (inside (length bytes) p) _ _ part-inside
-      ∙ ap (λ o. unwrap_or o 0) (cond-true (is_file_length p.length) (Some (frames_in p.length)) None part-is-file) ∙ part-counts
+  pub frames_back : part_frames bytes p ≡ length fs
+  frames_back =
+      cond-true (inside (length bytes) p) _ _ part_inside
+      ∙ ap (λ o. unwrap_or o 0) (cond-true (is_file_length p.length) (Some (frames_in p.length)) None part_is_file) ∙ part_counts
 
-  part-byte : (i j place : ℕ) → i < length fs → j < 4 → place ≡ p.start + (44 + (4 * i + j)) → get_or bytes place 0 ≡ get_or (frame_bytes (get_or fs i silence)) j 0
-  part-byte i j place g k e =
+  part_byte : (i j place : ℕ) → i < length fs → j < 4 → place ≡ p.start + (44 + (4 * i + j)) → get_or bytes place 0 ≡ get_or (frame_bytes (get_or fs i silence)) j 0
+  part_byte i j place g k e =
       let head = head_bytes (length fs) rate in
       let at = 44 + (4 * i + j) in
       let body = frames_bytes_length fs in
       let m : at - 44 ≡ 4 * i + j = omega arith in
-      ap (λ n. get_or bytes n 0) e ∙ sym (get_or-drop p.start bytes at 0) ∙ ap (λ l. get_or l at 0) part-begins
+      ap (λ n. get_or bytes n 0) e ∙ sym (get_or-drop p.start bytes at 0) ∙ ap (λ l. get_or l at 0) part_begins
       ∙ get_or-append_right head (frames_bytes fs ++ rest) 44 at 0 (head_length (length fs) rate) (omega arith)
       ∙ ap (λ n. get_or (frames_bytes fs ++ rest) n 0) m ∙ get_or_append_left (frames_bytes fs) rest 0 (4 * i + j) (omega arith) ∙ frames_byte fs i j g k
 
-  part-frame-back : (i : ℕ) → i < length fs → frame_at bytes (p.start + 44 + 4 * i) ≡ get_or fs i silence
-  part-frame-back i g =
+  part_frame_back : (i : ℕ) → i < length fs → frame_at bytes (p.start + 44 + 4 * i) ≡ get_or fs i silence
+  part_frame_back i g =
       let f = get_or fs i silence in
       let s = h.samples i g in
-      let a = part-byte i 0 (p.start + 44 + 4 * i) g (omega arith) (omega arith) in
-      let b = part-byte i 1 (p.start + 44 + 4 * i + 1) g (omega arith) (omega arith) in
-      let c = part-byte i 2 (p.start + 44 + 4 * i + 2) g (omega arith) (omega arith) in
-      let d = part-byte i 3 (p.start + 44 + 4 * i + 3) g (omega arith) (omega arith) in
+      let a = part_byte i 0 (p.start + 44 + 4 * i) g (omega arith) (omega arith) in
+      let b = part_byte i 1 (p.start + 44 + 4 * i + 1) g (omega arith) (omega arith) in
+      let c = part_byte i 2 (p.start + 44 + 4 * i + 2) g (omega arith) (omega arith) in
+      let d = part_byte i 3 (p.start + 44 + 4 * i + 3) g (omega arith) (omega arith) in
       ap₂ (λ x y. record { left = x; right = y }) (ap₂ sample_of a b ∙ sample_back f.left s.0) (ap₂ sample_of c d ∙ sample_back f.right s.1)
 
   pub frame_back : (i : ℕ) → part_frame bytes p i ≡ get_or fs i silence
   frame_back i =
       ⊎_elim
-      (λ g. cond-true (ltb i (part_frames bytes p)) _ _ (lt-ltb i (part_frames bytes p) (let n = frames-back in omega arith)) ∙ part-frame-back i g)
-      (λ g. cond-false (ltb i (part_frames bytes p)) _ _ (le-ltb i (part_frames bytes p) (let n = frames-back in omega arith)) ∙ sym (get_or_past fs i silence g))
+      (λ g. cond-true (ltb i (part_frames bytes p)) _ _ (lt-ltb i (part_frames bytes p) (let n = frames_back in omega arith)) ∙ part_frame_back i g)
+      (λ g. cond-false (ltb i (part_frames bytes p)) _ _ (le-ltb i (part_frames bytes p) (let n = frames_back in omega arith)) ∙ sym (get_or_past fs i silence g))
       (cases_lt i (length fs))
 
 -- no part has a fault
@@ -135,7 +135,7 @@ unfolding FilesReadBack
 files_read_back s bytes parts some each = (
   cond-false (eqb (length s.plan.nodes) 0) _ _ (ne_eqb (length s.plan.nodes) 0 (λ z. omega arith)) ∙ no_faults s.rate bytes 0 parts (λ i g track. fine i track (each i g)),
   λ track fs g held. (
-    cond-true (ltb track 8) _ _ (lt-ltb track 8 g) ∙ frames-back s.rate bytes (part_of parts track) fs held,
+    cond-true (ltb track 8) _ _ (lt-ltb track 8 g) ∙ frames_back s.rate bytes (part_of parts track) fs held,
     λ i. cond-true (ltb track 8) _ _ (lt-ltb track 8 g) ∙ frame_back s.rate bytes (part_of parts track) fs held i,
   ),
 )
@@ -143,18 +143,18 @@ files_read_back s bytes parts some each = (
     fine : (i track : ℕ) → ((part_of parts i).length ≡ 0) ⊎ ((fs : List Frame) × HoldsFile s.rate bytes (part_of parts i) fs)
         → part_fault s.rate bytes track (part_of parts i) ≡ None
     fine i track (inl e) = cond-true (eqb (part_of parts i).length 0) _ _ (eq-eqb (part_of parts i).length 0 e)
-    fine i track (inr held) = no-part-fault s.rate bytes (part_of parts i) held.0 held.1 track
+    fine i track (inr held) = no_part_fault s.rate bytes (part_of parts i) held.0 held.1 track
 
 -- one part among empty ones
 module _ (track size : ℕ) (g : track < 8) where
   abbrev none : TrackPart
   none = record { start = 0; length = 0 }
 
-  alone-here : part_of (alone track size) track ≡ record { start = 0; length = size }
-  alone-here = get_or-set_same (replicate 8 none) track (record { start = 0; length = size }) none g
+  alone_here : part_of (alone track size) track ≡ record { start = 0; length = size }
+  alone_here = get_or-set_same (replicate 8 none) track (record { start = 0; length = size }) none g
 
-  alone-other : (u : ℕ) → u < length (alone track size) → (u ≡ track → ⊥) → (part_of (alone track size) u).length ≡ 0
-  alone-other u h n =
+  alone_other : (u : ℕ) → u < length (alone track size) → (u ≡ track → ⊥) → (part_of (alone track size) u).length ≡ 0
+  alone_other u h n =
       let eight = length-set (replicate 8 none) track (record { start = 0; length = size }) in
       ap (λ (p : TrackPart). p.length) (get_or-set_other (replicate 8 none) track u (record { start = 0; length = size }) none n ∙ get_or-replicate 8 u none none (omega arith))
 
@@ -165,8 +165,8 @@ round_trip s fs some few samples track g =
     let size = length bytes in
     let held : HoldsFile s.rate bytes (record { start = 0; length = size }) fs = record { few = few; samples = samples; ends = omega arith; file = take_all size bytes (omega arith) } in
     let at : (u : ℕ) → u ≡ track → HoldsFile s.rate bytes (part_of (alone track size) u) fs =
-    λ u e. subst (λ p. HoldsFile s.rate bytes p fs) (sym (ap (part_of (alone track size)) e ∙ alone-here track size g)) held in
-    let all = files_read_back s bytes (alone track size) some (λ u h. ⊎_elim (λ e. inr (fs, at u e)) (λ n. inl (alone-other track size g u h n)) (cases_eq u track)) in
+    λ u e. subst (λ p. HoldsFile s.rate bytes p fs) (sym (ap (part_of (alone track size)) e ∙ alone_here track size g)) held in
+    let all = files_read_back s bytes (alone track size) some (λ u h. ⊎_elim (λ e. inr (fs, at u e)) (λ n. inl (alone_other track size g u h n)) (cases_eq u track)) in
     (all.0, all.1 track fs g (at track refl))
 
 -- what a buffer that now holds the file is read as

@@ -12,42 +12,42 @@ module _ (xs : List ℕ) (i : ℕ) (h : i < length xs) where
   unfolding all_digits
   digits_more = at_drop_more all_digits xs i 0 h
 
-  pub letters-more : all_letters (drop i xs) ≡ (is_letter (get_or xs i 0) && all_letters (drop (i + 1) xs))
+  pub letters_more : all_letters (drop i xs) ≡ (is_letter (get_or xs i 0) && all_letters (drop (i + 1) xs))
   unfolding all_letters
-  letters-more = at_drop_more all_letters xs i 0 h
+  letters_more = at_drop_more all_letters xs i 0 h
 
   pub known_more : known_run (drop i xs) ≡ cond (is_known (get_or xs i 0)) (suc (known_run (drop (i + 1) xs))) zero
   unfolding known_run
   known_more = at_drop_more known_run xs i 0 h
 
-  pub upto-more : (m : ℕ) → upto m (drop i xs) ≡ cond (eqb (get_or xs i 0) m) zero (suc (upto m (drop (i + 1) xs)))
+  pub upto_more : (m : ℕ) → upto m (drop i xs) ≡ cond (eqb (get_or xs i 0) m) zero (suc (upto m (drop (i + 1) xs)))
   unfolding upto
-  upto-more m = at_drop_more (upto m) xs i 0 h
+  upto_more m = at_drop_more (upto m) xs i 0 h
 
   pub read_more : (n : ℕ) → read_on n (drop i xs) ≡ read_on (10 * n + (get_or xs i 0 - 48)) (drop (i + 1) xs)
   unfolding read_on
   read_more n = at_drop_more (read_on n) xs i 0 h
 
 module _ (xs : List ℕ) (i : ℕ) (h : length xs ≤ i) where
-  pub digits-end : all_digits (drop i xs) ≡ true
+  pub digits_end : all_digits (drop i xs) ≡ true
   unfolding all_digits
-  digits-end = at_drop_all all_digits xs i h
+  digits_end = at_drop_all all_digits xs i h
 
-  pub letters-end : all_letters (drop i xs) ≡ true
+  pub letters_end : all_letters (drop i xs) ≡ true
   unfolding all_letters
-  letters-end = at_drop_all all_letters xs i h
+  letters_end = at_drop_all all_letters xs i h
 
-  pub known-end : known_run (drop i xs) ≡ 0
+  pub known_end : known_run (drop i xs) ≡ 0
   unfolding known_run
-  known-end = at_drop_all known_run xs i h
+  known_end = at_drop_all known_run xs i h
 
-  pub upto-end : (m : ℕ) → upto m (drop i xs) ≡ 0
+  pub upto_end : (m : ℕ) → upto m (drop i xs) ≡ 0
   unfolding upto
-  upto-end m = at_drop_all (upto m) xs i h
+  upto_end m = at_drop_all (upto m) xs i h
 
-  pub read-end : (n : ℕ) → read_on n (drop i xs) ≡ n
+  pub read_end : (n : ℕ) → read_on n (drop i xs) ≡ n
   unfolding read_on
-  read-end n = at_drop_all (read_on n) xs i h
+  read_end n = at_drop_all (read_on n) xs i h
 
 -- each of some digits is one
 pub digit_at : (xs : List ℕ) (i : ℕ) → all_digits xs ≡ true → i < length xs → (48 ≤ get_or xs i 0) × (get_or xs i 0 ≤ 57)

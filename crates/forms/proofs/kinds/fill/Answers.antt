@@ -2,7 +2,7 @@ use Rattle.std.proofs.Common.{◌≡◌, suc, ◌+◌, ◌-◌, length, set, sym
 use Rattle.std.proofs.lemmas.List.{length-set}
 use Rattle.std.proofs.lemmas.Result.{err_from_is_err_and}
 use Rattle.std.proofs.lemmas.Int.{to_z-of_z}
-use Rattle.forms.proofs.Taps.{taps_end, taps-more, taps-stop}
+use Rattle.forms.proofs.Taps.{taps_end, taps_more, taps_stop}
 use Rattle.forms.proofs.kinds.fill.Goals as goal
 use Rattle.forms.specs.Forms.{taps_form}
 use Rattle.words.specs.Words.{cursor}
@@ -12,7 +12,7 @@ returns-in_err-taps c =
     let p = err_from_is_err_and c.from_residual.result c.from_residual.ensures.1 in
     let n : c.args.count - c.loop-i.i ≡ suc (c.args.count - (c.loop-i.i + 1)) = omega arith in
     rw (p.1, p.2) (sym (ap (λ m. taps_form c.loop-i.i m c.loop-i.taps (cursor c.loop-i.words)) n
-    ∙ taps-stop c.loop-i.i _ c.loop-i.taps (cursor c.loop-i.words) _ c.in_err-taps.ensures) ∙ c.loop-i.invariant.0)
+    ∙ taps_stop c.loop-i.i _ c.loop-i.taps (cursor c.loop-i.words) _ c.in_err-taps.ensures) ∙ c.loop-i.invariant.0)
 
 pub loop-i-preserved : goal.loop-i-preserved
 loop-i-preserved c =
@@ -21,7 +21,7 @@ loop-i-preserved c =
     let h = c.in_ok-taps.ensures in
     let n : c.args.count - c.loop-i.i ≡ suc (c.args.count - (c.loop-i.i + 1)) = omega arith in (
       ap (λ z. taps_form (c.loop-i.i + 1) (c.args.count - (c.loop-i.i + 1)) (set c.loop-i.taps c.loop-i.i z) (cursor c.gain.new.words)) (to_z-of_z w16 g f)
-          ∙ sym (ap (λ m. taps_form c.loop-i.i m c.loop-i.taps (cursor c.loop-i.words)) n ∙ taps-more c.loop-i.i _ c.loop-i.taps (cursor c.loop-i.words) g _ h)
+          ∙ sym (ap (λ m. taps_form c.loop-i.i m c.loop-i.taps (cursor c.loop-i.words)) n ∙ taps_more c.loop-i.i _ c.loop-i.taps (cursor c.loop-i.words) g _ h)
           ∙ c.loop-i.invariant.0,
       length-set _ _ _ ∙ c.loop-i.invariant.1,
     )

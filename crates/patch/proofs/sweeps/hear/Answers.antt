@@ -1,5 +1,5 @@
 use Rattle.std.proofs.Common.{◌≡◌, ◌<◌, [], get_or, Some, None, sym, refl, ap, ◌∙◌, subst, arith}
-use Rattle.patch.proofs.Hearing.{Hearing, hears-all, hears-first, hears-on, left_falls, left_from, value_at}
+use Rattle.patch.proofs.Hearing.{Hearing, hears_all, hears_first, hears_on, left_falls, left_from, value_at}
 use Rattle.patch.proofs.Joining.{joined_to, or_start}
 use Rattle.patch.proofs.sweeps.hear.Goals as goal
 use Rattle.patch.proofs.sweeps.hear.Goals.{in-None, in-Some-heard}
@@ -9,7 +9,7 @@ use Rattle.std.proofs.lemmas.List.{get_or_default}
 
 pub loop-at-init : goal.loop-at-init
 loop-at-init g c =
-    hears-first (g.F.Flow.kind c.args.kind.now) c.args.lines.now c.args.inputs.now c.args.values.now c.args.v
+    hears_first (g.F.Flow.kind c.args.kind.now) c.args.lines.now c.args.inputs.now c.args.values.now c.args.v
     c.requires.1.1 c.requires.0
 
 pub loop-at-smaller : goal.loop-at-smaller
@@ -30,7 +30,7 @@ loop-at-preserved g c =
     let read : x ≡ value_at kind lines values i =
     get_or_default values start c.index-values-lines.result kind.start
     (omega (arith, c.type_inv.values, c.requires.1.0.starts i (c.loop-at.invariant.0 i c.in-Some.is))) in
-    hears-on kind lines c.args.inputs.now values c.args.v c.loop-at.heard (Some c.match-heard.heard) c.loop-at.at i
+    hears_on kind lines c.args.inputs.now values c.args.v c.loop-at.heard (Some c.match-heard.heard) c.loop-at.at i
     c.match-heard.heard c.loop-at.invariant c.in-Some.is refl
     (elim c.match-heard.branch [
       | in-Some-heard w ↦
@@ -46,7 +46,7 @@ pub returns-in-Some-heard-2 : goal.returns-in-Some-heard-2
 returns-in-Some-heard-2 g c =
     let kind = g.F.Flow.kind c.args.kind.now in
     sym (ap (or_start kind.start) c.in-Some-heard-2.is)
-    ∙ hears-all kind c.args.lines.now c.args.inputs.now c.args.values.now c.args.v c.loop-at.heard
+    ∙ hears_all kind c.args.lines.now c.args.inputs.now c.args.values.now c.args.v c.loop-at.heard
     (subst (λ at. Hearing kind c.args.lines.now c.args.inputs.now c.args.values.now c.args.v c.loop-at.heard at)
     c.in_default.is c.loop-at.invariant)
 
@@ -55,6 +55,6 @@ returns-in-None-heard g c =
     let kind = g.F.Flow.kind c.args.kind.now in
     c.start.ensures
     ∙ (sym (ap (or_start kind.start) c.in-None-heard.is)
-    ∙ hears-all kind c.args.lines.now c.args.inputs.now c.args.values.now c.args.v c.loop-at.heard
+    ∙ hears_all kind c.args.lines.now c.args.inputs.now c.args.values.now c.args.v c.loop-at.heard
     (subst (λ at. Hearing kind c.args.lines.now c.args.inputs.now c.args.values.now c.args.v c.loop-at.heard at)
     c.in_default.is c.loop-at.invariant))

@@ -1,5 +1,5 @@
 use Rattle.std.proofs.Common.{◌≡◌, ◌+◌, length, Err, sym, ap, ◌∙◌, arith}
-use Rattle.text.proofs.Spaces.{spaces-gap, spaces-more, spaces_none}
+use Rattle.text.proofs.Spaces.{spaces_gap, spaces_more, spaces_none}
 use Rattle.text.proofs.checks.check_spaces.Goals as goal
 use Rattle.words.specs.Pieces.{pieces}
 use Rattle.text.specs.Reading.{spaces_check}
@@ -10,7 +10,7 @@ returns-then-is_empty c =
     let e = c.in-Some.ensures.cut in
     ap (λ n. Err (Space (record { line = c.args.row; column = n + 1 }))) c.at-column.ensures.value
     ∙ sym (ap (spaces_check c.args.row (c.loop-word.words.at + 1)) e.0
-    ∙ spaces-gap c.args.row (c.loop-word.words.at + 1) c.in-Some.word.now (pieces c.next.new.self) (sym c.is_empty.ensures ∙ c.if-is_empty.true))
+    ∙ spaces_gap c.args.row (c.loop-word.words.at + 1) c.in-Some.word.now (pieces c.next.new.self) (sym c.is_empty.ensures ∙ c.if-is_empty.true))
     ∙ c.loop-word.invariant
 
 pub loop-word-preserved : goal.loop-word-preserved
@@ -20,7 +20,7 @@ loop-word-preserved c =
     let at : c.next.new.self.at + 1 ≡ c.loop-word.words.at + 1 + n + 1 = omega (arith, e.1) in
     ap (λ k. spaces_check c.args.row k (pieces c.next.new.self)) at
     ∙ sym (ap (spaces_check c.args.row (c.loop-word.words.at + 1)) e.0
-    ∙ spaces-more c.args.row (c.loop-word.words.at + 1) c.in-Some.word.now (pieces c.next.new.self) (sym c.is_empty.ensures ∙ c.if-is_empty.false))
+    ∙ spaces_more c.args.row (c.loop-word.words.at + 1) c.in-Some.word.now (pieces c.next.new.self) (sym c.is_empty.ensures ∙ c.if-is_empty.false))
     ∙ c.loop-word.invariant
 
 pub returns-in-None : goal.returns-in-None

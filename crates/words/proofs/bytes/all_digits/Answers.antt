@@ -1,6 +1,6 @@
 use Rattle.std.proofs.Common.{◌≡◌, ◌+◌, ◌&&◌, drop, sym, ap, ◌∙◌}
 use Rattle.std.proofs.lemmas.Bool.{and_left}
-use Rattle.words.proofs.Runs.{digits-end, digits_more}
+use Rattle.words.proofs.Runs.{digits_end, digits_more}
 use Rattle.words.proofs.bytes.all_digits.Goals as goal
 use Rattle.words.specs.Bytes.{all_digits}
 
@@ -14,4 +14,4 @@ loop-b-preserved c =
     ∙ ap (λ b. b && all_digits (drop (c.loop-b.b-index + 1) c.args.bytes.now)) (sym c.is_digit.ensures ∙ c.if-not-is_digit.false)) ∙ c.loop-b.invariant
 
 pub returns : goal.returns
-returns c = sym (digits-end c.args.bytes.now c.loop-b.b-index c.loop-b-test.false) ∙ c.loop-b.invariant
+returns c = sym (digits_end c.args.bytes.now c.loop-b.b-index c.loop-b-test.false) ∙ c.loop-b.invariant

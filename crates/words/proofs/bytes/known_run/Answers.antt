@@ -1,6 +1,6 @@
 use Rattle.std.proofs.Common.{◌≡◌, sym, ap, ◌∙◌, arith}
 use Rattle.std.proofs.lemmas.Bool.{cond-false, cond-true}
-use Rattle.words.proofs.Runs.{known-end, known_more}
+use Rattle.words.proofs.Runs.{known_end, known_more}
 use Rattle.words.proofs.bytes.known_run.Goals as goal
 
 pub returns-then-not-is_known : goal.returns-then-not-is_known
@@ -17,6 +17,6 @@ loop-i-preserved c =
 
 pub returns : goal.returns
 returns c =
-    let e = known-end c.args.bytes.now c.loop-i.i (omega arith) in
+    let e = known_end c.args.bytes.now c.loop-i.i (omega arith) in
     let i = c.loop-i.invariant in
     record { value = omega arith; bound = omega arith }

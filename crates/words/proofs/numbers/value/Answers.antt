@@ -1,5 +1,5 @@
 use Rattle.std.proofs.Common.{◌≡◌, ◌+◌, ◌-◌, ◌*◌, ◌^◌, get_or, drop, sym, ap, ◌∙◌, arith}
-use Rattle.words.proofs.Runs.{digit_at, read-end, read_more, ten_times}
+use Rattle.words.proofs.Runs.{digit_at, read_end, read_more, ten_times}
 use Rattle.words.proofs.numbers.value.Goals as goal
 use Rattle.words.specs.Numbers.{read_on}
 
@@ -17,4 +17,4 @@ loop-d-preserved c =
     (ap (λ k. read_on (10 * c.loop-d.n + k) (drop (i + 1) ds)) f ∙ sym (read_more ds i c.loop-d-test.true c.loop-d.n) ∙ c.loop-d.invariant.0, omega arith)
 
 pub returns : goal.returns
-returns c = sym (read-end c.args.digits.now c.loop-d.d-index c.loop-d-test.false c.loop-d.n) ∙ c.loop-d.invariant.0
+returns c = sym (read_end c.args.digits.now c.loop-d.d-index c.loop-d-test.false c.loop-d.n) ∙ c.loop-d.invariant.0

@@ -1,5 +1,5 @@
 use Rattle.std.proofs.Common.{◌≡◌, ◌+◌, ◌≤◌, ◌++◌, length, drop, set, pos, sym, ap, ◌∙◌, ap₂, arith, rules}
-use Rattle.console.proofs.Filling.{after_more, out-length, out-more, set_next}
+use Rattle.console.proofs.Filling.{after_more, out_length, out_more, set_next}
 use Rattle.console.proofs.desks.Desk.fill.Goals as goal
 use Rattle.console.specs.Desks.{desk_plan}
 use Rattle.patch.specs.Patches.{delay_of, ordered_nodes}
@@ -26,8 +26,8 @@ loop-k-preserved g c =
       now,
       h.out
           ∙ ap₂ (λ o t. set o k (on_tape t 0 (pos (n + k)))) c.loop-k.invariant.2 (ap (λ (x : Deck). x.tape) now)
-          ∙ set_next (frames_out p order delay reel k n first) out k _ (out-length p order delay reel k n first) c.loop-k-test.true
-          ∙ ap (λ l. l ++ drop (k + 1) out) (sym (out-more p order delay reel k n first)),
+          ∙ set_next (frames_out p order delay reel k n first) out k _ (out_length p order delay reel k n first) c.loop-k-test.true
+          ∙ ap (λ l. l ++ drop (k + 1) out) (sym (out_more p order delay reel k n first)),
     )
 
 pub returns : goal.returns

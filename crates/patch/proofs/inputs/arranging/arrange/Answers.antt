@@ -1,5 +1,5 @@
 use Rattle.std.proofs.Common.{◌≡◌, ◌+◌, ◌-◌, ◌<◌, [], length, get_or, Some, None, refl, ◌∙◌, subst, arith}
-use Rattle.patch.proofs.Linking.{Linked, all_linked, links-more, none_linked, none_rises, rises-on}
+use Rattle.patch.proofs.Linking.{Linked, all_linked, links_more, none_linked, none_rises, rises_on}
 use Rattle.patch.proofs.inputs.arranging.arrange.Goals as goal
 use Rattle.patch.specs.Placing.{plan_of}
 use Rattle.session.specs.Plan.{line}
@@ -21,8 +21,8 @@ loop-i-preserved c =
     let linked = subst (Linked lines first next) before inv.2 in (
       length-set first end (Some i) ∙ inv.0,
       length-set next i (get_or first end None) ∙ inv.1,
-      links-more lines c.requires first next i inside inv.0 inv.1 linked,
-      rises-on lines c.requires first next i inside inv.0 inv.1 linked inv.3,
+      links_more lines c.requires first next i inside inv.0 inv.1 linked,
+      rises_on lines c.requires first next i inside inv.0 inv.1 linked inv.3,
     )
 
 pub returns : goal.returns

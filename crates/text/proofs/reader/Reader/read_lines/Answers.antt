@@ -2,7 +2,7 @@ use Rattle.std.proofs.Common.{◌≡◌, ◌+◌, ◌≤◌, true, Err, sym, ap,
 use Rattle.session.specs.Contents.{ready}
 use Rattle.session.specs.Drafts.{draft}
 use Rattle.std.proofs.lemmas.Result.{err_from_is_err_and, IfOk-from_err}
-use Rattle.text.proofs.Lines.{gives_closed, gives_err, lines_end, lines-err, lines_more, lines_none, made_always}
+use Rattle.text.proofs.Lines.{gives_closed, gives_err, lines_end, lines_err, lines_more, lines_none, made_always}
 use Rattle.text.proofs.reader.Reader.read_lines.Goals as goal
 use Rattle.words.specs.Pieces.{pieces}
 use Rattle.text.specs.Reading.{line_read, lines_read}
@@ -16,7 +16,7 @@ returns-in_err-ended c =
     record {
       does = gives_err _ c.from_residual.result _ c.in_err-ended.field-0.0 (p.1 ∙ ap Err p.2)
           (λ m. sym c.loop-line.invariant.0 ∙ ap (lines_read row st d) c.in-Some.ensures.cut.0
-          ∙ lines-err row st d c.in-Some.line.now (pieces c.next.new.self) _ (ap (line_read row st d c.in-Some.line.now) (sym c.is_done.ensures) ∙ c.in_err-ended.ensures.does m));
+          ∙ lines_err row st d c.in-Some.line.now (pieces c.next.new.self) _ (ap (line_read row st d c.in-Some.line.now) (sym c.is_done.ensures) ∙ c.in_err-ended.ensures.does m));
       ready = λ _. IfOk-from_err c.from_residual.result _ c.from_residual.ensures.0;
     }
 

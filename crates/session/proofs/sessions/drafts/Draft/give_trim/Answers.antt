@@ -1,7 +1,7 @@
 use Rattle.std.proofs.Common.{◌≡◌, ◌<◌, length, sym, refl, ap, ◌∙◌, arith, rules}
 use mathlib.Core.Logic.{∥∥₁_map}
-use Rattle.session.proofs.Drafting.{draft-layer}
-use Rattle.session.proofs.Entries.{after-trim, set_below}
+use Rattle.session.proofs.Drafting.{draft_layer}
+use Rattle.session.proofs.Entries.{after_trim, set_below}
 use Rattle.session.proofs.sessions.drafts.Draft.give_trim.Goals as goal
 use Rattle.session.specs.Drafts.{drafted}
 use Rattle.std.proofs.lemmas.List.{length-set}
@@ -14,11 +14,11 @@ invariant_of-self c =
     let d = c.args.self.now in
     let l : c.args.s < 8 = set_below d.settings c.args.s d.eight (sym c.is_set.ensures ∙ c.if-is_set.true) in
     let n = d.eight in
-    (ap length c.put_trim.ensures ∙ length-set _ _ _ ∙ d.eight, (∥∥₁_map d.lawful (λ r. draft-layer (drafted d) r _ c.args.s _ (omega arith) refl c.put_trim.ensures), tt))
+    (ap length c.put_trim.ensures ∙ length-set _ _ _ ∙ d.eight, (∥∥₁_map d.lawful (λ r. draft_layer (drafted d) r _ c.args.s _ (omega arith) refl c.put_trim.ensures), tt))
 
 pub returns-then-not-has_trim : goal.returns-then-not-has_trim
 returns-then-not-has_trim c =
     let d = c.args.self.now in
     let l : c.args.s < 8 = set_below d.settings c.args.s d.eight (sym c.is_set.ensures ∙ c.if-is_set.true) in
     let n = d.eight in
-    record { fits = search rules; after = after-trim (drafted d) c.args.s (omega arith) _ c.args.trim.gain c.put_trim.ensures }
+    record { fits = search rules; after = after_trim (drafted d) c.args.s (omega arith) _ c.args.trim.gain c.put_trim.ensures }

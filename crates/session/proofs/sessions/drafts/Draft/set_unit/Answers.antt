@@ -1,7 +1,7 @@
 use Rattle.std.proofs.Common.{◌≡◌, ◌<◌, true, length, sym, refl, ap, ◌∙◌, arith, rules}
 use mathlib.Core.Logic.{∥∥₁_map}
-use Rattle.session.proofs.Drafting.{below_eight, draft-kind, same_units}
-use Rattle.session.proofs.Entries.{after-kind}
+use Rattle.session.proofs.Drafting.{below_eight, draft_kind, same_units}
+use Rattle.session.proofs.Entries.{after_kind}
 use Rattle.session.proofs.sessions.drafts.Draft.set_unit.Goals as goal
 use Rattle.session.specs.Drafts.{drafted}
 use Rattle.session.specs.Held.{suits}
@@ -13,7 +13,7 @@ invariant_of-self c =
     let f : suits c.args.s c.args.kind ≡ true = sym (same_units c.args.s c.args.kind) ∙ sym c.is_for.ensures ∙ c.if-is_for.true in
     let l : c.args.s < 8 = below_eight c.args.s c.args.kind f in
     let n = d.eight in
-    (ap length c.put_kind.ensures ∙ length-set _ _ _ ∙ d.eight, (∥∥₁_map d.lawful (λ r. draft-kind (drafted d) r _ c.args.s c.args.kind (omega arith) f c.put_kind.ensures), tt))
+    (ap length c.put_kind.ensures ∙ length-set _ _ _ ∙ d.eight, (∥∥₁_map d.lawful (λ r. draft_kind (drafted d) r _ c.args.s c.args.kind (omega arith) f c.put_kind.ensures), tt))
 
 pub returns-then-not-is_set : goal.returns-then-not-is_set
 returns-then-not-is_set c =
@@ -21,4 +21,4 @@ returns-then-not-is_set c =
     let f : suits c.args.s c.args.kind ≡ true = sym (same_units c.args.s c.args.kind) ∙ sym c.is_for.ensures ∙ c.if-is_for.true in
     let l : c.args.s < 8 = below_eight c.args.s c.args.kind f in
     let n = d.eight in
-    record { fits = search rules; after = after-kind (drafted d) c.args.s (omega arith) _ c.args.kind c.put_kind.ensures }
+    record { fits = search rules; after = after_kind (drafted d) c.args.s (omega arith) _ c.args.kind c.put_kind.ensures }
