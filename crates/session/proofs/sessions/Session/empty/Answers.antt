@@ -4,4 +4,4 @@ use Rattle.session.specs.Held.{unset}
 
 pub invariant_of-result : goal.invariant_of-result
 invariant_of-result c =
-    (refl, (∣ inl (ap₂ (λ n l. record { rate = 0; plan = record { nodes = n; lines = l }; settings = replicate 8 unset }) c.new.ensures.items c.new-2.ensures.items) ∣₁, tt))
+    record { eight = refl; lawful = ∣ inl (ap₂ (λ n l. record { rate = 0; plan = record { nodes = n; lines = l }; settings = replicate 8 unset }) c.new.ensures.items c.new-2.ensures.items) ∣₁ }

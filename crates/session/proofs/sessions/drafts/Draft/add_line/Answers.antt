@@ -9,4 +9,4 @@ invariant_of-self c =
     let d = c.args.self.now in
     let n = d.lines.ok.0 in
     let m = d.nodes.ok.0 in
-    (d.eight, (∥∥₁_map d.lawful (λ r. draft_line (drafted d) r c.args.line (omega arith) (omega arith) (sym c.is_bus.ensures ∙ c.if-not-is_bus.false) _ _ c.push.ensures.items), tt))
+    record { eight = d.eight; lawful = ∥∥₁_map d.lawful (λ r. draft_line (drafted d) r c.args.line (omega arith) (omega arith) (sym c.is_bus.ensures ∙ c.if-not-is_bus.false) _ _ c.push.ensures.items) }

@@ -8,4 +8,4 @@ pub invariant_of-self : goal.invariant_of-self
 invariant_of-self c =
     let d = c.args.self.now in
     let m = d.nodes.ok.0 in
-    (d.eight, (∥∥₁_map d.lawful (λ r. draft_node (drafted d) r c.args.node (omega arith) (sym c.has_free.ensures ∙ c.if-not-has_free.false) _ _ c.push.ensures.items), tt))
+    record { eight = d.eight; lawful = ∥∥₁_map d.lawful (λ r. draft_node (drafted d) r c.args.node (omega arith) (sym c.has_free.ensures ∙ c.if-not-has_free.false) _ _ c.push.ensures.items) }

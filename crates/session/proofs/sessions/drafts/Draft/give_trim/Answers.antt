@@ -14,7 +14,7 @@ invariant_of-self c =
     let d = c.args.self.now in
     let l : c.args.s < 8 = set_below d.settings c.args.s d.eight (sym c.is_set.ensures ∙ c.if-is_set.true) in
     let n = d.eight in
-    (ap length c.put_trim.ensures ∙ length-set _ _ _ ∙ d.eight, (∥∥₁_map d.lawful (λ r. draft_layer (drafted d) r _ c.args.s _ (omega arith) refl c.put_trim.ensures), tt))
+    record { eight = ap length c.put_trim.ensures ∙ length-set _ _ _ ∙ d.eight; lawful = ∥∥₁_map d.lawful (λ r. draft_layer (drafted d) r _ c.args.s _ (omega arith) refl c.put_trim.ensures) }
 
 pub returns-then-not-has_trim : goal.returns-then-not-has_trim
 returns-then-not-has_trim c =

@@ -6,4 +6,4 @@ use Rattle.session.specs.Lawful.{LawfulDraft}
 
 pub invariant_of-result : goal.invariant_of-result
 invariant_of-result c =
-    (refl, (∣ subst LawfulDraft (sym (ap₂ (λ n l. record { rate = 0; plan = record { nodes = n; lines = l }; settings = replicate 8 unset }) c.new.ensures.items c.new-2.ensures.items)) draft_nothing ∣₁, tt))
+    record { eight = refl; lawful = ∣ subst LawfulDraft (sym (ap₂ (λ n l. record { rate = 0; plan = record { nodes = n; lines = l }; settings = replicate 8 unset }) c.new.ensures.items c.new-2.ensures.items)) draft_nothing ∣₁ }

@@ -7,4 +7,4 @@ use Rattle.session.specs.Drafts.{drafted}
 pub invariant_of-self : goal.invariant_of-self
 invariant_of-self c =
     let d = c.args.self.now in
-    (d.eight, (∥∥₁_map d.lawful (λ r. draft_rate (drafted d) r c.args.rate (omega arith) (omega arith)), tt))
+    record { eight = d.eight; lawful = ∥∥₁_map d.lawful (λ r. draft_rate (drafted d) r c.args.rate (omega arith) (omega arith)) }

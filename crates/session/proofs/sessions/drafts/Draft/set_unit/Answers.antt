@@ -13,7 +13,7 @@ invariant_of-self c =
     let f : suits c.args.s c.args.kind ≡ true = sym (same_units c.args.s c.args.kind) ∙ sym c.is_for.ensures ∙ c.if-is_for.true in
     let l : c.args.s < 8 = below_eight c.args.s c.args.kind f in
     let n = d.eight in
-    (ap length c.put_kind.ensures ∙ length-set _ _ _ ∙ d.eight, (∥∥₁_map d.lawful (λ r. draft_kind (drafted d) r _ c.args.s c.args.kind (omega arith) f c.put_kind.ensures), tt))
+    record { eight = ap length c.put_kind.ensures ∙ length-set _ _ _ ∙ d.eight; lawful = ∥∥₁_map d.lawful (λ r. draft_kind (drafted d) r _ c.args.s c.args.kind (omega arith) f c.put_kind.ensures) }
 
 pub returns-then-not-is_set : goal.returns-then-not-is_set
 returns-then-not-is_set c =
