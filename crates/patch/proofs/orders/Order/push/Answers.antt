@@ -20,10 +20,11 @@ agrees nodes placed count v n p c l h w b =
 pub invariant_of-self : goal.invariant_of-self
 invariant_of-self c =
     let self = c.args.self.now in
-    let short : self.count < 16 = omega (arith, length-take-le self.count self.nodes (omega (arith, self.sixteen.0, self.sixteen.2))) in (
-      (length-set self.nodes self.count c.args.v ∙ self.sixteen.0, length-set self.placed c.args.v true ∙ self.sixteen.1, omega arith),
-      (agrees self.nodes self.placed self.count c.args.v self.sixteen.0 self.sixteen.1 short c.requires.0 self.agrees, tt),
-    )
+    let short : self.count < 16 = omega (arith, length-take-le self.count self.nodes (omega (arith, self.sixteen.0, self.sixteen.2))) in
+    record {
+      sixteen = (length-set self.nodes self.count c.args.v ∙ self.sixteen.0, length-set self.placed c.args.v true ∙ self.sixteen.1, omega arith);
+      agrees = agrees self.nodes self.placed self.count c.args.v self.sixteen.0 self.sixteen.1 short c.requires.0 self.agrees;
+    }
 
 pub returns : goal.returns
 returns c = let self = c.args.self.now in
