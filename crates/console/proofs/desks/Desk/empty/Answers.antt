@@ -7,10 +7,11 @@ none j h = omega arith
 
 pub invariant_of-result : goal.invariant_of-result
 invariant_of-result c =
-    let h = c.empty.ensures in (
-      (refl, refl, refl, omega arith, omega arith),
-      (
-        λ i l. absurd (none i l),
-        (λ i. all_zero 48 i ∙ sym (ap (λ xs. get_or xs i 0) h.delays), (λ k l. absurd (none k (subst (λ xs. k < length xs) h.order l)), (∣ h.inputs ∣₁, tt))),
-      ),
-    )
+    let h = c.empty.ensures in
+    record {
+      sizes = (refl, refl, refl, omega arith, omega arith);
+      starts = λ i l. absurd (none i l);
+      delayed = λ i. all_zero 48 i ∙ sym (ap (λ xs. get_or xs i 0) h.delays);
+      ordered = λ k l. absurd (none k (subst (λ xs. k < length xs) h.order l));
+      arranged = ∣ h.inputs ∣₁;
+    }

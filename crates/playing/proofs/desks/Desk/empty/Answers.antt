@@ -11,25 +11,13 @@ none : (j : ℕ) → j < 0 → ⊥
 none j h = omega arith
 
 pub invariant_of-result : goal.invariant_of-result
-invariant_of-result c = (
-  (refl, refl, refl, refl),
-  (
-    (refl, refl, refl),
-    (
-      (omega arith, omega arith),
-      (
-        λ i h. subst (λ l. l.start < 16) (sym (all_alike 48 i no_line)) (omega arith),
-        (
-          λ k h. absurd (omega arith),
-          (
-            λ v h. all_alike 16 v 0,
-            (
-              λ v h. subst (λ k. k + k ≤ 48) (sym (all_alike 16 v 0)) (omega arith),
-              (λ v j h. absurd (none j (subst (λ k. j < k) (all_alike 16 v 0) h.1)), tt),
-            ),
-          ),
-        ),
-      ),
-    ),
-  ),
-)
+invariant_of-result c = record {
+  node_sizes = (refl, refl, refl, refl);
+  line_sizes = (refl, refl, refl);
+  bounds = (omega arith, omega arith);
+  starts = λ i h. subst (λ l. l.start < 16) (sym (all_alike 48 i no_line)) (omega arith);
+  ordered = λ k h. absurd (omega arith);
+  counted = λ v h. all_alike 16 v 0;
+  placed = λ v h. subst (λ k. k + k ≤ 48) (sym (all_alike 16 v 0)) (omega arith);
+  arranged = λ v j h. absurd (none j (subst (λ k. j < k) (all_alike 16 v 0) h.1));
+}
