@@ -14,7 +14,7 @@ fn longer(a: u32, b: u32) -> u32
 
 // How many frames a node's source has: a track's length, 0 for a bus.
 fn source_length<L: Reel>(source: Source, reel: &L) -> u32
-    ensures { result ≡ source_length (tracks reel.now) source }
+    ensures { result ≡ source_length (L.tracks reel.now) source }
 {
     match source {
         Source::Track(track) => reel.length(track),
@@ -24,7 +24,7 @@ fn source_length<L: Reel>(source: Source, reel: &L) -> u32
 
 // The greatest length among the tracks of some nodes.
 fn longest<L: Reel>(nodes: &[Node], reel: &L) -> u32
-    ensures length { result ≡ longest (tracks reel.now) nodes.now }
+    ensures length { result ≡ longest (L.tracks reel.now) nodes.now }
     ensures bound { result ≤ 2147483647 }
 {
     let mut most = 0;
@@ -37,7 +37,7 @@ fn longest<L: Reel>(nodes: &[Node], reel: &L) -> u32
 // How many frames a session's mix has that comes `late` frames late: the greatest length among its tracks, and the
 // lateness.
 pub fn mix_length<L: Reel>(session: &Session, reel: &L, late: u16) -> u32
-    ensures { result ≡ longest (tracks reel.now) (held session.now).plan.nodes + late }
+    ensures { result ≡ longest (L.tracks reel.now) (held session.now).plan.nodes + late }
 {
     longest(session.nodes(), reel) + u32::from(late)
 }

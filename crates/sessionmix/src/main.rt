@@ -29,7 +29,7 @@ fn read_session(rt: &HostRuntime, session: &mut Session) -> Result<(), Stop> {
     }
     match read(&text, session, rt.alloc()) {
         Ok(()) => Ok(()),
-        Err(ReadFault::NoMemory) => Err(Stop::Failed("no memory for the session".into())),
+        Err(ReadFault::NoMemory) => Err(Stop::Failed(anyhow!("no memory for the session"))),
         Err(fault) => Err(Stop::Refused(fault.into())),
     }
 }

@@ -1,13 +1,13 @@
 use anyhow::anyhow;
 use std::fs;
 use std::io::ErrorKind;
-use wave::parts::{TrackPart, TrackParts};
+use wave::parts::TrackPart;
 
 // The bytes of all track files, one after the other, and where each stands.
 #[derive(Drop)]
 pub struct TrackFiles {
     bytes: Vec<u8>,
-    parts: TrackParts,
+    parts: [TrackPart; 8],
 }
 
 impl TrackFiles {
@@ -15,7 +15,7 @@ impl TrackFiles {
         self.bytes.as_slice()
     }
 
-    pub(crate) fn parts(&self) -> TrackParts {
+    pub(crate) fn parts(&self) -> [TrackPart; 8] {
         self.parts
     }
 }

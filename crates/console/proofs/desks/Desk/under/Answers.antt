@@ -29,25 +29,23 @@ invariant_of-result g c =
     let nodes = ap length c.nodes-2.ensures in
     let lines = ap length c.lines-2.ensures in
     let all : take (length c.lines-2.result.now) c.copy-2.new.row ≡ p.lines =
-    front_copy c.lines.result.now c.copy-2.new.row _ p.lines (length c.lines-2.result.now) c.lines.ensures c.copy-2.ensures (lines ∙ sym (ap length c.lines.ensures)) in (
-      (
+    front_copy c.lines.result.now c.copy-2.new.row _ p.lines (length c.lines-2.result.now) c.lines.ensures c.copy-2.ensures (lines ∙ sym (ap length c.lines.ensures)) in
+    record {
+      sizes = (
         whole_copy c.nodes.result.now c.copy.new.row _ p.nodes 16 refl rules.few_nodes c.nodes.ensures c.copy.ensures,
         whole_copy c.lines.result.now c.copy-2.new.row _ p.lines 48 refl rules.few_lines c.lines.ensures c.copy-2.ensures,
         whole_copy c.delays.result.now c.copy-3.new.row _ (delays r) 48 refl (omega (arith, c.requires.each_held, rules.few_lines)) c.delays.ensures c.copy-3.ensures,
         omega (arith, nodes, rules.few_nodes),
         omega (arith, lines, rules.few_lines),
-      ),
-      (
-        λ i l.
-            subst (λ (x : Line). x.start < 16)
-            (ap (λ xs. get_or xs i no_line) (sym all) ∙ get_or-take (length c.lines-2.result.now) c.copy-2.new.row i no_line l)
-            (omega (arith, rules.starts i (omega (arith, lines)), rules.few_nodes)),
-        (
-          λ i. ap (λ xs. get_or xs i 0) c.copy-3.ensures ∙ copied_zeros c.delays.result.now (length c.delays.result.now) 48 i ∙ ap (λ xs. get_or xs i 0) c.delays.ensures,
-          (λ k l. omega (arith, nodes, ((in_order p _ r rules c.requires).once k l).0), (∣ subst (λ xs. Arranges xs r.inputs) (sym all) c.requires.arranged ∣₁, tt)),
-        ),
-      ),
-    )
+      );
+      starts = λ i l.
+          subst (λ (x : Line). x.start < 16)
+          (ap (λ xs. get_or xs i no_line) (sym all) ∙ get_or-take (length c.lines-2.result.now) c.copy-2.new.row i no_line l)
+          (omega (arith, rules.starts i (omega (arith, lines)), rules.few_nodes));
+      delayed = λ i. ap (λ xs. get_or xs i 0) c.copy-3.ensures ∙ copied_zeros c.delays.result.now (length c.delays.result.now) 48 i ∙ ap (λ xs. get_or xs i 0) c.delays.ensures;
+      ordered = λ k l. omega (arith, nodes, ((in_order p _ r rules c.requires).once k l).0);
+      arranged = ∣ subst (λ xs. Arranges xs r.inputs) (sym all) c.requires.arranged ∣₁;
+    }
 
 pub returns : goal.returns
 returns g c =
