@@ -1,5 +1,5 @@
 -- The forms of the lines, word by word.
-use Rattle.std.specs.Prelude.{ℕ, zero, suc, ◌+◌, ◌%◌, Bool, true, false, cond, not, ◌&&◌, List, [], ◌∷◌, length, set, replicate, ℤ, pos, Some, None, Ok, Err, codes, Option, Result, ◌==◌, nat_lt, slice_set}
+use Rattle.std.specs.Prelude.{ℕ, zero, suc, ◌+◌, ◌%◌, Bool, true, false, cond, not, ◌&&◌, List, [], ◌∷◌, length, replicate, ℤ, pos, Some, None, Ok, codes, Option, Result, ◌==◌, nat_lt, slice_set}
 use Rattle.session.specs.Contents.{Contents, Effect, bus_at, delay, fir, has_bypass, has_trim, is_set, limit, pan, used, with_bypass, with_trim}
 use Rattle.session.specs.declared.nodes.Line.{Line}
 use Rattle.session.specs.declared.nodes.Node.{Node}

@@ -1,5 +1,5 @@
 -- Sums, one element further, and a bus's sum on its way.
-use Rattle.std.proofs.Common.{◌≡◌, ℕ, ◌+◌, ◌<◌, Bool, true, cond, ltb, List, [], ◌∷◌, ◌++◌, length, ℤ, pos, ◌+ℤ◌, sym, refl, ap, ◌∙◌, ap₂, arith}
+use Rattle.std.proofs.Common.{◌≡◌, ◌+◌, ◌<◌, Bool, true, cond, ltb, List, [], ◌∷◌, ◌++◌, length, ℤ, ◌+ℤ◌, sym, ap, ◌∙◌, ap₂, arith}
 use Rattle.frames.specs.Buses.{bus, left_of, right_of}
 use Rattle.frames.specs.Samples.{clamped, total}
 use Rattle.frames.specs.declared.samples.Frame.{Frame}

@@ -1,5 +1,5 @@
 -- How a refusal is printed.
-use Rattle.std.specs.Prelude.{ℕ, List, [], ◌∷◌, ◌++◌, codes, decimal}
+use Rattle.std.specs.Prelude.{ℕ, List, ◌++◌, codes, decimal}
 use Rattle.frames.specs.declared.refusals.Layer.{Layer}
 use Rattle.frames.specs.declared.refusals.Layer.TheVariants.{Text, Wave, Patch, Play}
 use Rattle.frames.specs.declared.refusals.Refusal.{Refusal}

@@ -1,5 +1,5 @@
 -- What is found along the order of a plan is our patch.
-use Rattle.std.proofs.Common.{◌≡◌, ℕ, ◌+◌, ◌-◌, ◌<◌, ◌≤◌, Bool, true, false, not, eqb, List, length, get_or, take, Some, None, Option, sym, refl, ap, ◌∙◌, subst, subst₂, arith}
+use Rattle.std.proofs.Common.{◌≡◌, ℕ, ◌-◌, ◌<◌, Bool, true, false, not, eqb, List, length, get_or, take, Some, None, Option, sym, refl, ap, ◌∙◌, subst, subst₂, arith}
 use Rattle.frames.specs.declared.samples.Frame.{Frame}
 use Rattle.patch.proofs.Feeding.{feeders_are_chains}
 use Rattle.patch.proofs.Finding.{none_passes}
@@ -11,10 +11,9 @@ use Rattle.patch.specs.Due.{due, first_due, lowest_lacking}
 use Rattle.patch.specs.Flows.{feeders_kind, lateness_kind}
 use Rattle.patch.specs.Inputs.{Arranges}
 use Rattle.patch.specs.Ours.{OurPatch}
-use Rattle.patch.specs.Patches.{delay_of, delays, feeders_of, late_of, ordered_nodes}
+use Rattle.patch.specs.Patches.{delay_of, feeders_of, late_of, ordered_nodes}
 use Rattle.patch.specs.Placing.{Placed, lowest_unplaced, order_of, place_in, plan_of, stands}
 use Rattle.patch.specs.Sweeps.{Along, Fit, Kind, Swept, Swept_to, by_node, swept}
-use Rattle.patch.specs.declared.faults.PatchFault.{PatchFault}
 use Rattle.patch.specs.declared.patches.Patch.{Patch}
 use Rattle.racks.specs.Rack.{RackLaws}
 use Rattle.session.specs.Plan.{KeepsRules, Plan, line, node}

@@ -1,5 +1,5 @@
 -- The feeder sweep gives the nodes from which a chain of lines leads.
-use Rattle.std.proofs.Common.{◌≡◌, ℕ, zero, suc, ◌+◌, ◌-◌, ◌*◌, ◌/◌, ◌%◌, ◌^◌, ◌<◌, ◌≤◌, max, Bool, true, false, ◌||◌, eqb, List, [], ◌∷◌, map, length, Decides, sym, refl, ap, ◌∙◌, subst, ap₂, inl, inr, arith}
+use Rattle.std.proofs.Common.{◌≡◌, ℕ, ◌+◌, ◌-◌, ◌*◌, ◌/◌, ◌%◌, ◌^◌, ◌<◌, max, true, false, ◌||◌, eqb, List, [], ◌∷◌, map, length, Decides, sym, ap, ◌∙◌, subst, inl, inr, arith}
 use lib.Bits.{bit_or, or_step}
 use Rattle.patch.specs.Chains.{Chain}
 use Rattle.patch.specs.Chains.Chain.{here, along}

@@ -1,10 +1,10 @@
 -- Which nodes can follow those of an order.
-use Rattle.std.proofs.Common.{◌≡◌, ℕ, ◌<◌, Bool, true, false, not, ◌&&◌, List, length, Some, None, Decides, refl, inl, inr}
+use Rattle.std.proofs.Common.{◌≡◌, ℕ, ◌<◌, Bool, true, false, not, List, Some, None, Decides, refl, inl, inr}
 use Rattle.patch.proofs.Finding.{lowest_none, lowest_some}
 use Rattle.patch.specs.Placing.{Follows, can_follow, every, lowest, stands}
 use Rattle.session.specs.Plan.{Plan, line, lines_into}
 use Rattle.signals.proofs.Lines.{EachInto, all_lines, each_line}
-use Rattle.std.proofs.lemmas.Bool.{and_from, and_left, and_parts, and_right, both_ways, cases_Bool, not_from_false, not_from_true, not-true}
+use Rattle.std.proofs.lemmas.Bool.{and_from, and_parts, both_ways, cases_Bool, not_from_false, not-true}
 use Rattle.std.proofs.ByRecursion.{Decides-by_and}
 use Rattle.std.specs.List.{AllByRecursion as All}
 

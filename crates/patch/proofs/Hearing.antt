@@ -1,5 +1,5 @@
 -- What a node has heard, and what it has yet to hear.
-use Rattle.std.proofs.Common.{◌≡◌, ℕ, ◌-◌, ◌<◌, ◌≤◌, List, [], ◌∷◌, map, length, get_or, Some, None, Option, sym, refl, ap, ◌∙◌, subst, arith}
+use Rattle.std.proofs.Common.{◌≡◌, ℕ, ◌-◌, ◌<◌, List, [], map, length, get_or, Some, None, Option, sym, refl, ap, ◌∙◌, subst, arith}
 use Rattle.patch.proofs.Joining.{collected, collected_from, from_none, joined_in_all, joined_to, or_start}
 use Rattle.patch.proofs.Linking.{Rising, links_end, links_on}
 use Rattle.patch.specs.Inputs.{Arranges, Links, first_into, next_after}

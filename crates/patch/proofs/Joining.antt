@@ -1,5 +1,5 @@
 -- What is joined of the values that come along the lines into a node.
-use Rattle.std.proofs.Common.{◌≡◌, ℕ, List, [], ◌∷◌, map, Some, None, Option, refl, ap}
+use Rattle.std.proofs.Common.{◌≡◌, ℕ, List, [], ◌∷◌, Some, None, Option, refl, ap}
 use Rattle.patch.specs.Sweeps.{Kind, joined, joined_on, swept}
 use Rattle.session.specs.Plan.{Plan, line, lines_into}
 use Rattle.signals.proofs.Lines.{EachInto, all_lines, map_same}

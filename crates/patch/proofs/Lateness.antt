@@ -1,5 +1,5 @@
 -- The lateness sweep gives our latenesses.
-use Rattle.std.proofs.Common.{◌≡◌, ℕ, ◌+◌, ◌-◌, ◌*◌, ◌<◌, ◌≤◌, min, max, List, [], ◌∷◌, map, length, get_or, Some, None, Option, refl, ap, ◌∙◌, arith}
+use Rattle.std.proofs.Common.{◌≡◌, ℕ, ◌+◌, ◌*◌, ◌<◌, ◌≤◌, min, max, List, [], ◌∷◌, map, length, get_or, Some, None, Option, refl, ap, arith}
 use Rattle.frames.specs.declared.samples.Frame.{Frame}
 use Rattle.patch.specs.Flows.{lateness_kind}
 use Rattle.patch.specs.Sweeps.{Swept, joined, joined_on}

@@ -1,14 +1,13 @@
 -- What holds of the order in which nodes are placed.
-use Rattle.std.proofs.Common.{◌≡◌, ℕ, zero, suc, ◌+◌, ◌<◌, ◌≤◌, Bool, true, false, List, [], ◌∷◌, ◌++◌, length, get_or, take, Some, None, Option, sym, refl, ap, ◌∙◌, subst, inl, inr, add-one, arith}
+use Rattle.std.proofs.Common.{◌≡◌, ℕ, zero, suc, ◌+◌, ◌<◌, ◌≤◌, true, false, List, [], ◌∷◌, ◌++◌, length, get_or, take, Some, None, sym, refl, ap, ◌∙◌, subst, inl, inr, add-one, arith}
 use Rattle.patch.proofs.Finding.{by_lowest, lowest_none, lowest_some}
 use Rattle.patch.proofs.Following.{follows, follows_parts, not_again}
 use Rattle.patch.proofs.Growing.{grown_by, grown_next}
-use Rattle.patch.proofs.Standing.{at_place, inside_stands, none_standing, place_inside, place_new, place_old, standing, standing_all, standing_most, standing_push, stands_other}
-use Rattle.patch.specs.Placing.{FollowsRule, OneOrder, OrderedIsPlaced, Placed, PlacedIsOrdered, can_follow, grown, lowest, order_of, place_in, plan_of, stands}
+use Rattle.patch.proofs.Standing.{inside_stands, none_standing, place_inside, place_new, place_old, standing, standing_all, standing_most, standing_push, stands_other}
+use Rattle.patch.specs.Placing.{FollowsRule, OneOrder, OrderedIsPlaced, PlacedIsOrdered, can_follow, grown, lowest, order_of, place_in, stands}
 use Rattle.patch.specs.Sweeps.{Along}
 use Rattle.session.specs.Plan.{KeepsRules, Plan, line}
 use Rattle.signals.proofs.Order.{from_starts}
-use Rattle.signals.specs.Patches.{Ordered}
 use Rattle.std.proofs.lemmas.List.{get_or_append_left, get_or_push, length_push, take_all, take-append-le, take_at, take_more_same}
 use Rattle.std.proofs.lemmas.Bool.{both_ways, cases_Bool, cases_eq, false≢true}
 

@@ -1,5 +1,5 @@
 -- One node further along an order.
-use Rattle.std.proofs.Common.{◌≡◌, ℕ, ◌+◌, ◌<◌, List, [], length, get_or, set, sym, refl, ap, ◌∙◌, subst, inl, inr, arith}
+use Rattle.std.proofs.Common.{◌≡◌, ℕ, ◌+◌, ◌<◌, List, [], length, get_or, set, sym, ap, ◌∙◌, subst, inl, inr, arith}
 use Rattle.patch.proofs.Joining.{swept_same}
 use Rattle.patch.specs.Placing.{place_in, plan_of}
 use Rattle.patch.specs.Sweeps.{Along, Kind, OneSweep, Swept_to, by_node, swept}

@@ -1,5 +1,5 @@
 -- The worked sessions.
-use Rattle.std.proofs.Common.{ℕ, refl, ap, ◌∙◌, ap₂, arith, lit<}
+use Rattle.std.proofs.Common.{refl, ◌∙◌, ap₂, arith, lit<}
 use lib.Bits.{bit_or}
 use Rattle.patch.specs.Examples.{Worked}
 

@@ -1,25 +1,24 @@
 -- Rack and tape follow the signals under a patch, node by node and frame by frame.
-use Rattle.std.proofs.Common.{◌≡◌, ℕ, zero, suc, ◌+◌, ◌-◌, ◌<◌, ◌≤◌, true, false, cond, eqb, ltb, ◌≢◌, ◌⊎◌, List, [], ◌∷◌, ◌++◌, map, length, get_or, set, replicate, ℤ, pos, ◌+ℤ◌, ◌-ℤ◌, ◌≤ℤ◌, ◌<ℤ◌, Some, None, fold, Option, sym, refl, ap, ◌∙◌, subst, inl, inr, ⊎_elim, arith}
+use Rattle.std.proofs.Common.{◌≡◌, ℕ, zero, suc, ◌<◌, ◌≤◌, cond, eqb, ◌≢◌, List, [], ◌∷◌, ◌++◌, length, set, ℤ, pos, ◌+ℤ◌, ◌-ℤ◌, ◌≤ℤ◌, ◌<ℤ◌, Some, None, Option, sym, refl, ap, ◌∙◌, subst, inl, inr, arith}
 use Rattle.frames.specs.Buses.{bus}
 use Rattle.frames.specs.Samples.{silence}
 use Rattle.frames.specs.declared.samples.Frame.{Frame}
-use Rattle.playing.proofs.Hearing.{answers_last, HasHeard, heard_more, heard_nothing, stepped_lawful, unit_moved, unit_unmoved}
+use Rattle.playing.proofs.Hearing.{answers_last, HasHeard, heard_more, stepped_lawful, unit_moved, unit_unmoved}
 use Rattle.playing.proofs.Slots.{other_frame, other_node, slot_inside}
 use Rattle.playing.specs.Tape.{on_tape, slot}
-use Rattle.playing.specs.Theorems.{AtRest, InOrder}
-use Rattle.playing.specs.Work.{after_frames, Deck, frame_work, frames_out, given, hears, moved, node_work}
-use Rattle.racks.specs.Rack.{answer, answer_of, heard_by, RackLaws, stepped, unit}
+use Rattle.playing.specs.Work.{Deck, given, hears, moved, node_work}
+use Rattle.racks.specs.Rack.{heard_by, RackLaws, stepped, unit}
 use Rattle.reels.specs.Tracks.{Tracks}
 use Rattle.session.specs.Plan.{KeepsRules, line, lines_into, node, Plan}
 use Rattle.session.specs.declared.nodes.Source.{Source}
 use Rattle.session.specs.declared.nodes.Source.TheVariants.{Track, Bus}
 use Rattle.signals.proofs.Lines.{all_lines, map_same}
 use Rattle.signals.proofs.Units.{unit_lawful}
-use Rattle.signals.specs.Signals.{brought, Gives, input, last_frame, Signal, SilentBefore, span, Under}
-use Rattle.std.proofs.lemmas.List.{get_or-replicate, get_or-set_other, get_or-set_same, length-replicate, length-set}
+use Rattle.signals.specs.Signals.{brought, input, last_frame, Signal, SilentBefore, span, Under}
+use Rattle.std.proofs.lemmas.List.{get_or-set_other, get_or-set_same, length-set}
 use Rattle.std.proofs.lemmas.Int.{by_lt_z, ints}
-use Rattle.std.proofs.lemmas.Bool.{cases_eq, cases_lt, cond-false, cond-true, eq-eqb, le-ltb, lt-ltb, ne_eqb}
-use Rattle.voices.specs.Meaning.{Lawful, Meaning}
+use Rattle.std.proofs.lemmas.Bool.{cases_eq, cond-false, cond-true, eq-eqb, ne_eqb}
+use Rattle.voices.specs.Meaning.{Meaning}
 
 span_push : (x : Signal Frame) (b : ℤ) (k : ℕ) → span x b (suc k) ≡ span x b k ++ x (b +ℤ pos k) ∷ []
 span_push x b zero = ap (λ n. x n ∷ []) (omega (arith, ints))

@@ -1,5 +1,5 @@
 -- A unit that has heard a list since it was at rest, one frame further.
-use Rattle.std.proofs.Common.{◌≡◌, ℕ, suc, ◌+◌, ◌<◌, ◌≤◌, ◌≢◌, List, [], ◌∷◌, ◌++◌, length, get_or, take, drop, set, replicate, sym, refl, ap, ◌∙◌, subst, inl, inr, ⊎_elim, append_assoc, arith, length-append}
+use Rattle.std.proofs.Common.{◌≡◌, ℕ, suc, ◌+◌, ◌<◌, ◌≤◌, ◌≢◌, List, [], ◌∷◌, ◌++◌, length, take, drop, sym, refl, ap, ◌∙◌, subst, inl, inr, ⊎_elim, append_assoc, arith, length-append}
 use Rattle.frames.specs.Samples.{silence}
 use Rattle.frames.specs.declared.samples.Frame.{Frame}
 use Rattle.racks.specs.Rack.{answer, first_frame, heard_by, no_unit, RackLaws, rest_of, stepped, unit}

@@ -1,5 +1,5 @@
 -- The lines into a node: each is a line.
-use Rattle.std.proofs.Common.{◌≡◌, ℕ, ◌<◌, ◌≤◌, length, get_or, take, sym, subst, arith}
+use Rattle.std.proofs.Common.{◌≡◌, ℕ, ◌<◌, ◌≤◌, length, get_or, arith}
 use Rattle.playing.specs.Desks.{desk_plan}
 use Rattle.playing.specs.declared.desks.Desk.{Desk}
 use Rattle.session.specs.Plan.{lines_into, Plan}

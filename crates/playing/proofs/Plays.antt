@@ -1,5 +1,5 @@
 -- Playing gives the signals under the patch.
-use Rattle.std.proofs.Common.{◌≡◌, ℕ, zero, suc, ◌+◌, ◌<◌, ◌≤◌, cond, eqb, ltb, ◌≢◌, List, [], ◌∷◌, ◌++◌, length, get_or, replicate, ℤ, pos, ◌+ℤ◌, ◌≤ℤ◌, ◌<ℤ◌, Some, None, fold, Option, sym, refl, ap, ◌∙◌, subst, ap₂, inl, inr, ⊎_elim, arith}
+use Rattle.std.proofs.Common.{◌≡◌, ℕ, zero, suc, ◌+◌, ◌<◌, ◌≤◌, cond, eqb, ltb, ◌≢◌, List, [], ◌∷◌, ◌++◌, length, get_or, ℤ, pos, ◌+ℤ◌, ◌<ℤ◌, Some, None, fold, Option, sym, refl, ap, ◌∙◌, subst, ap₂, inl, inr, ⊎_elim, arith}
 use Rattle.frames.specs.Samples.{silence}
 use Rattle.frames.specs.declared.samples.Frame.{Frame}
 use Rattle.playing.proofs.Follow.{Follows, follows_same, incoming, node_follows, one_more}
@@ -10,7 +10,7 @@ use Rattle.playing.specs.Theorems.{AtRest, InOrder, PlaysThePatch}
 use Rattle.playing.specs.Work.{after_frames, Deck, frame_work, frames_out, node_work}
 use Rattle.racks.specs.Rack.{RackLaws, unit}
 use Rattle.reels.specs.Tracks.{Tracks}
-use Rattle.session.specs.Plan.{KeepsRules, line, lines_into, node, Plan}
+use Rattle.session.specs.Plan.{KeepsRules, line, node, Plan}
 use Rattle.signals.proofs.Inputs.{input_silent, SilentUntil}
 use Rattle.signals.proofs.Lines.{all_lines}
 use Rattle.signals.proofs.Listening.{made_makes, made_silent, makes_same}

@@ -1,5 +1,5 @@
 -- Different frames that the tape holds at one time stand at different places.
-use Rattle.std.proofs.Common.{◌≡◌, ℕ, suc, ◌+◌, ◌-◌, ◌*◌, ◌%◌, ◌<◌, ◌≢◌, ℤ, pos, negsuc, ◌+ℤ◌, ◌≤ℤ◌, ◌<ℤ◌, arith}
+use Rattle.std.proofs.Common.{ℕ, ◌+◌, ◌<◌, ◌≢◌, ℤ, pos, negsuc, ◌+ℤ◌, ◌<ℤ◌, arith}
 use Rattle.playing.specs.Tape.{round, slot}
 use Rattle.std.proofs.lemmas.Int.{ints}
 

@@ -2,7 +2,7 @@
 use Rattle.std.specs.Prelude.{◌≡◌, ℕ, ◌+◌, ◌<◌, ◌≤◌, List, ◌++◌, length, pos, slice_index}
 use Rattle.frames.specs.declared.samples.Frame.{Frame}
 use Rattle.playing.specs.Tape.{silent_tape}
-use Rattle.playing.specs.Work.{after_frames, Deck, frames_out}
+use Rattle.playing.specs.Work.{after_frames, frames_out}
 use Rattle.racks.specs.Rack.{RackLaws, unit}
 use Rattle.reels.specs.Tracks.{Tracks}
 use Rattle.session.specs.Plan.{KeepsRules, Plan, line}

@@ -1,8 +1,8 @@
 -- What a unit's own calls do to a rack that it stands in.
-use Rattle.std.proofs.Common.{◌≡◌, ℕ, zero, suc, ◌+◌, ◌-◌, ◌<◌, ◌≤◌, List, [], ◌∷◌, ◌++◌, map, length, get_or, take, set, sym, refl, ap, ◌∙◌, ap₂, arith}
+use Rattle.std.proofs.Common.{◌≡◌, ℕ, zero, suc, ◌-◌, ◌<◌, ◌≤◌, List, [], ◌∷◌, ◌++◌, map, length, take, set, sym, refl, ap, ◌∙◌, arith}
 use mathlib.Core.Path.{fun_ext}
 use Rattle.frames.specs.declared.samples.Frame.{Frame}
-use Rattle.racks.specs.Rack.{answer, answer_of, first_frame, heard_by, no_unit, rest_of, rested, stepped, unit}
+use Rattle.racks.specs.Rack.{answer, first_frame, heard_by, no_unit, rest_of, rested, stepped, unit}
 use Rattle.std.proofs.lemmas.List.{get_or_append_left, get_or-append_right, get_or_past, get_or-take, length-take, map-append, set-append_left, set-append_right, set_past, take-map}
 use Rattle.voices.specs.Meaning.{Meaning}
 

@@ -1,5 +1,5 @@
 -- The click reel.
-use Rattle.std.specs.Prelude.{ℕ, ◌+◌, ◌*◌, cond, pos, negsuc, ◌==◌, nat_lt}
+use Rattle.std.specs.Prelude.{◌+◌, ◌*◌, cond, pos, negsuc, ◌==◌, nat_lt}
 use Rattle.frames.specs.Samples.{silence}
 use Rattle.frames.specs.declared.samples.Frame.{Frame}
 use Rattle.reels.specs.Tracks.{Tracks}

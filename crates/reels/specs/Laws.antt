@@ -1,8 +1,7 @@
 -- That the click reel keeps the laws of a reel: a proof, which no reader of the definitions needs.
-use Rattle.std.specs.Prelude.{◌≡◌, ℕ, ◌+◌, ◌*◌, ◌<◌, ◌≤◌, true, cond, ◌==◌, nat_lt, refl}
+use Rattle.std.specs.Prelude.{◌≡◌, ℕ, ◌+◌, ◌*◌, ◌≤◌, true, cond, ◌==◌, nat_lt, refl}
 use Rattle.std.proofs.Common.{arith}
 use Rattle.frames.specs.Samples.{silence}
-use Rattle.frames.specs.declared.samples.Frame.{Frame}
 use Rattle.reels.specs.Clicks.{click, clicks}
 use Rattle.reels.specs.Tracks.{ReelLaws}
 use Rattle.std.proofs.lemmas.Bool.{cond_both, cond-false, cond-true, le-ltb, ltb-true, ne_eqb}

@@ -7,7 +7,7 @@ use Rattle.session.specs.Tables.{with_kind}
 use Rattle.session.specs.Plan.{KeepsRules, Plan, is_bus, line, node}
 use Rattle.session.specs.declared.nodes.Line.{Line}
 use Rattle.session.specs.declared.nodes.Node.{Node}
-use Rattle.session.specs.declared.nodes.Source.TheVariants.{Bus, Track}
+use Rattle.session.specs.declared.nodes.Source.TheVariants.{Bus}
 use Rattle.session.specs.declared.settings.Kind.{Kind}
 use Rattle.session.specs.declared.settings.Kind.TheVariants.{Fir, Limit, Pan, Delay}
 use Rattle.session.specs.declared.settings.Setting.{Setting}

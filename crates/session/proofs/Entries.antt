@@ -1,5 +1,5 @@
 -- The table of settings, entry by entry, in plain numbers.
-use Rattle.std.proofs.Common.{◌≡◌, ℕ, ◌<◌, ◌≤◌, true, List, map, length, get_or, set, ℤ, is_some, sym, ap, ◌∙◌, ⊎_elim, arith}
+use Rattle.std.proofs.Common.{◌≡◌, ℕ, ◌<◌, ◌≤◌, true, List, map, length, get_or, set, ℤ, is_some, sym, ap, ◌∙◌, ⊎_elim}
 use Rattle.session.specs.Contents.{Entry, bare, bypassed, contents, effect, entry, set_entry, trimmed, with_bypass, with_entry, with_trim, with_unit}
 use Rattle.session.specs.Held.{Held, unset}
 use Rattle.session.specs.Tables.{passed_by, with_gain, with_kind}

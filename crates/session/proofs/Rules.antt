@@ -1,11 +1,11 @@
 -- A session with a node keeps the rules.
-use Rattle.std.proofs.Common.{◌≡◌, ℕ, ◌≤◌, true, ◌⊎◌, length, ap, inl, inr, ⊎_elim, arith}
+use Rattle.std.proofs.Common.{◌≡◌, ◌≤◌, length, ap, ⊎_elim, arith}
 use mathlib.Core.Bool.{Bool-set}
 use mathlib.Core.HLevel.{Π_prop}
 use mathlib.Core.Logic.{∥∥₁_elim}
 use native.Mathlib.Bridge.{le_prop}
 use native.Mathlib.Nat.{ℕ_set}
-use Rattle.session.specs.Held.{Full, Held, LawfulSession, nothing}
+use Rattle.session.specs.Held.{Full, Held, nothing}
 use Rattle.session.specs.Plan.{KeepsRules, Plan}
 use Rattle.session.specs.Sessions.{held}
 use Rattle.session.specs.declared.sessions.Session.{Session}

@@ -1,5 +1,5 @@
 -- What a session holds, and the rules of every session.
-use Rattle.std.specs.Prelude.{◌≡◌, ℕ, ◌≤◌, Bool, true, false, ◌&&◌, ◌⊎◌, List, [], length, replicate, Some, None, Option, nat_le, nat_lt, slice_index_or}
+use Rattle.std.specs.Prelude.{◌≡◌, ℕ, ◌≤◌, Bool, true, false, ◌&&◌, ◌⊎◌, List, [], length, replicate, Some, None, nat_le, nat_lt, slice_index_or}
 use Rattle.session.specs.Plan.{KeepsRules, Plan}
 use Rattle.session.specs.declared.settings.Kind.{Kind}
 use Rattle.session.specs.declared.settings.Kind.TheVariants.{Fir, Limit, Pan, Delay}

@@ -1,5 +1,5 @@
 -- A session's nodes and lines as plain lists, and the rules that they keep.
-use Rattle.std.specs.Prelude.{◌≡◌, ℕ, ◌<◌, ◌≤◌, Bool, true, false, List, length, pos, Some, None, filter, Option, nat_eq, slice_index_or}
+use Rattle.std.specs.Prelude.{◌≡◌, ℕ, ◌<◌, ◌≤◌, Bool, true, false, List, length, pos, Some, None, filter, nat_eq, slice_index_or}
 use Rattle.session.specs.declared.nodes.Line.{Line}
 use Rattle.session.specs.declared.nodes.Node.{Node}
 use Rattle.session.specs.declared.nodes.Source.{Source}

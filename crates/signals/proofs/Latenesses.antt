@@ -1,7 +1,7 @@
 -- Our latenesses and our patch.
 use Rattle.std.proofs.Common.{◌≡◌, ℕ, ◌+◌, ◌*◌, ◌<◌, ◌≤◌, List, length, Some, None, Option, sym, refl, ap, ◌∙◌, arith}
 use Rattle.frames.specs.declared.samples.Frame.{Frame}
-use Rattle.racks.specs.Rack.{RackLaws, unit}
+use Rattle.racks.specs.Rack.{RackLaws}
 use Rattle.session.specs.Plan.{KeepsRules, Plan, line, lines_into, node}
 use Rattle.signals.proofs.Lines.{EachInto, all_lines, at_most_greatest, each_line, greatest_at_most, greatest_same, with_lines}
 use Rattle.signals.proofs.Order.{LooksBack, from_starts, meets_rule, settled}

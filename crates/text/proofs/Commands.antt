@@ -1,25 +1,20 @@
 -- Lines and what they say, in the words of scripts.
-use Rattle.std.proofs.Common.{◌≡◌, ℕ, zero, suc, ◌+◌, ◌%◌, ◌^◌, ◌<◌, ◌≤◌, Bool, true, false, cond, not, ◌&&◌, ◌||◌, eqb, ltb, leb, ◌⊎◌, List, [], ◌∷◌, ◌++◌, map, length, ℤ, pos, negsuc, Some, None, codes, decimal, MatchBool, Option, sym, refl, ap, ◌∙◌, subst, ap₂, inl, inr, ⊎_elim, arith}
-use Rattle.session.specs.Contents.{Contents, Effect, bus_at, fits_unit, free, has_bypass, has_trim, is_set, unit_fits, used, with_line, with_node, with_rate, with_unit}
+use Rattle.std.proofs.Common.{◌≡◌, ℕ, suc, ◌^◌, ◌<◌, ◌≤◌, Bool, true, false, not, ◌&&◌, ltb, leb, List, [], ◌∷◌, ◌++◌, map, length, ℤ, pos, negsuc, Some, None, codes, decimal, MatchBool, Option, sym, refl, ap, ◌∙◌, subst, ap₂, inl, inr, ⊎_elim, arith}
+use Rattle.session.specs.Contents.{Contents, Effect, bus_at, fits_unit, free, has_bypass, has_trim, is_set, unit_fits, with_line, with_node, with_rate, with_unit}
 use Rattle.session.specs.declared.nodes.Line as links
 use Rattle.session.specs.declared.nodes.Node as nodes
 use Rattle.session.specs.declared.nodes.Source.{Source}
 use Rattle.session.specs.declared.nodes.Source.TheVariants.{Track, Bus}
 use Rattle.std.proofs.lemmas.Fmt.{decimal_nonempty, digits_decimal}
-use Rattle.std.proofs.lemmas.List.{map-append}
-use Rattle.std.proofs.ByRecursion.{All-weaker}
 use Rattle.std.proofs.lemmas.Bool.{and_from, and_parts, cases_Bool, cond_both, eq-eqb, eqb-true, le-leb, le-ltb, leb-true, lt-ltb, ltb-false, ltb-true, or_left, or_right}
 use Rattle.std.proofs.lemmas.Bool.Decides.{when_false, when_true}
 use Rattle.std.specs.Fmt.{signed_decimal}
 use Rattle.std.specs.List.{AllByRecursion as All}
-use Rattle.text.proofs.Grammar.{Head}
 use Rattle.text.proofs.Linewise.{Good, Says, plain}
 use Rattle.text.proofs.Spelt.{name_sound, own, small}
 use Rattle.text.proofs.Turned.{KindRest, LayerRest, LinkRest, NodeRest, SessionRest, UnitOk, UnitRest, gains, source_spelt, unit_spelt}
-use Rattle.text.proofs.Wholes.{TurnRest, TurnWords}
 use Rattle.text.specs.Scripts.{IsGain, LinkFits, NodeFits, Setup, SetupFits, Sort, SortRanges, SourceRange, UnitRange, a_delay, a_fir, a_limit, a_pan, after_setup, bypasses, end_words, link_words, made, node_words, session_words, sets, setup_words, sort_words, source_words, trims, unit_words}
-use Rattle.text.specs.Stages.{first_of, is_end, next_stage}
-use Rattle.text.specs.Turning.{Turned}
+use Rattle.text.specs.Stages.{first_of, next_stage}
 use Rattle.text.specs.declared.stages.First as firsts
 use Rattle.text.specs.declared.stages.First.TheVariants.{Session, Unit, Layer, Node, Line, End, Other}
 use Rattle.text.specs.declared.stages.Stage.{Stage}

@@ -1,8 +1,7 @@
 -- What the steps of a form accept, as rules over the words that are left.
 use Rattle.std.proofs.Common.{◌≡◌, ℕ, Bool, true, false, cond, List, [], ◌∷◌, map, Some, None, Ok, Err, MatchBool, Option, Result, sym, refl, ap, ◌∙◌, subst, subst₂, arith}
 use Rattle.std.proofs.lemmas.Bool.{false≢true}
-use Rattle.std.specs.Option.{ok_or}
-use Rattle.words.specs.Parsing.{Parse, ◌>>=◌, ◌>>◌, ask, asked, first_word, give, no_more, nothing_left, paired, refuse, then, word}
+use Rattle.words.specs.Parsing.{Parse, ◌>>=◌, ◌>>◌, ask, asked, first_word, give, no_more, nothing_left, refuse, then, word}
 use Rattle.words.specs.Words.{Cursor, Item, Spelling}
 use Rattle.words.specs.declared.faults.Place.{Place}
 use Rattle.words.specs.declared.faults.ReadFault.{ReadFault}

@@ -1,11 +1,11 @@
 -- A line and its words.
-use Rattle.std.proofs.Common.{◌≡◌, ℕ, zero, suc, ◌+◌, ◌<◌, ◌≤◌, Bool, true, false, cond, ◌&&◌, ◌||◌, eqb, ltb, leb, List, [], ◌∷◌, ◌++◌, map, length, Ok, Err, Result, sym, refl, ap, ◌∙◌, subst, ap₂, ⊎_elim, arith}
+use Rattle.std.proofs.Common.{◌≡◌, ℕ, suc, ◌+◌, ◌<◌, Bool, true, false, cond, ◌||◌, eqb, ltb, leb, List, [], ◌∷◌, map, length, Ok, Err, Result, sym, refl, ap, ◌∙◌, subst, ap₂, ⊎_elim, arith}
 use Rattle.session.specs.Contents.{Contents}
 use Rattle.std.proofs.ByRecursion.{All-append, All-weaker}
-use Rattle.std.proofs.lemmas.Bool.{cases_Bool, cond_both, cond-false, cond-true, eqb-true, false≢true, le-ltb, leb-true, and_parts, ne_eqb, or_cases, or_from, or_left, or_parts, or_right}
+use Rattle.std.proofs.lemmas.Bool.{cond_both, cond-false, cond-true, eqb-true, le-ltb, leb-true, and_parts, ne_eqb, or_cases, or_left, or_parts, or_right}
 use Rattle.std.specs.List.{AllByRecursion as All}
-use Rattle.text.proofs.Grammar.{Head, head_is, nil_not, not_ok, words_in}
-use Rattle.text.proofs.Joining.{Free, join, join_split, line_join, marked, split_join}
+use Rattle.text.proofs.Grammar.{Head, not_ok, words_in}
+use Rattle.text.proofs.Joining.{Free, line_join, marked, split_join}
 use Rattle.text.proofs.Wholes.{TurnWords, ends_whole}
 use Rattle.text.specs.Reading.{bytes_check, line_read, passes, spaces_check, value_of}
 use Rattle.text.specs.Scripts.{line_bytes}

@@ -1,21 +1,21 @@
 -- A text is read just where it is the spelling of a well-formed script.
-use Rattle.std.proofs.Common.{◌≡◌, ℕ, zero, suc, ◌+◌, ◌<◌, ◌≤◌, Bool, true, false, cond, ◌&&◌, leb, List, [], ◌∷◌, ◌++◌, map, length, Some, None, Ok, Err, codes, MatchBool, Option, Result, sym, refl, ap, ◌∙◌, subst, ap₂, arith}
+use Rattle.std.proofs.Common.{◌≡◌, ℕ, ◌+◌, ◌<◌, ◌≤◌, Bool, true, false, cond, leb, List, [], ◌∷◌, ◌++◌, map, length, Some, Ok, Err, codes, MatchBool, Result, sym, refl, ap, ◌∙◌, subst, ap₂, arith}
 use Rattle.session.specs.Contents.{Contents, no_contents, with_line, with_node, with_rate}
 use Rattle.session.specs.declared.nodes.Line as links
 use Rattle.session.specs.declared.nodes.Node as nodes
 use Rattle.std.proofs.ByRecursion.{All-append}
 use Rattle.std.proofs.lemmas.List.{length_push}
-use Rattle.std.proofs.lemmas.Bool.{cases_Bool, cond-false, cond-true, false≢true, le-leb, leb-true}
-use Rattle.std.specs.List.{flat_map, AllByRecursion as All}
+use Rattle.std.proofs.lemmas.Bool.{cond-true, false≢true, le-leb, leb-true}
+use Rattle.std.specs.List.{AllByRecursion as All}
 use Rattle.text.proofs.Commands.{FirstIs, end_complete, first_is, good_end, good_link, good_node, good_session, good_setup, layer_sound, link_complete, link_sound, node_complete, node_sound, session_complete, session_sound, setup_complete, unit_sound}
-use Rattle.text.proofs.Grammar.{nil_not, none_is, not_ok, some_is}
-use Rattle.text.proofs.Joining.{Free, join, join_split, line_join, lines_join, marked, split_join}
-use Rattle.text.proofs.Lines.{lines_end, lines_more, lines_none}
+use Rattle.text.proofs.Grammar.{none_is, not_ok, some_is}
+use Rattle.text.proofs.Joining.{Free, join, join_split, line_join, lines_join, split_join}
+use Rattle.text.proofs.Lines.{lines_end, lines_more}
 use Rattle.text.proofs.Linewise.{Good, Says, free_line, line_complete, line_sound, same_words}
 use Rattle.text.proofs.Wholes.{TurnRest}
 use Rattle.text.specs.Accepted.{Accepts}
 use Rattle.text.specs.Reading.{Gives, closed, line_read, lines_read, passes, reading}
-use Rattle.text.specs.Scripts.{AllFit, LinkFits, NodeFits, Script, Setup, SetupFits, WellFormed, after_all, after_setup, bypasses, end_words, line_bytes, link_words, node_words, nodes_words, said, script_words, session_words, sets, setup_words, spelt, spelt_line, trims}
+use Rattle.text.specs.Scripts.{AllFit, LinkFits, NodeFits, Script, Setup, SetupFits, WellFormed, after_all, after_setup, bypasses, end_words, line_bytes, link_words, node_words, nodes_words, said, script_words, session_words, sets, setup_words, spelt, trims}
 use Rattle.text.specs.Stages.{first_of, is_end, next_stage}
 use Rattle.text.specs.Turning.{Turned}
 use Rattle.text.specs.declared.stages.First as firsts

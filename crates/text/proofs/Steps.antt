@@ -1,16 +1,15 @@
 -- What the steps that read one word accept.
-use Rattle.std.proofs.Common.{◌≡◌, ℕ, zero, suc, ◌+◌, ◌*◌, ◌%◌, ◌^◌, ◌<◌, ◌≤◌, Bool, true, eqb, List, [], ◌∷◌, ◌++◌, map, length, set, ℤ, Some, codes, decimal, sym, refl, ap, ◌∙◌, subst, ap₂, arith}
-use Rattle.forms.specs.Forms.{count_form, numbered, role_fits, role_most, taps_form}
+use Rattle.std.proofs.Common.{◌≡◌, ℕ, ◌%◌, ◌^◌, ◌<◌, ◌≤◌, true, eqb, List, ◌∷◌, ℤ, Some, decimal, refl, ap, ◌∙◌, arith}
+use Rattle.forms.specs.Forms.{count_form, numbered, role_fits, role_most}
 use Rattle.session.specs.Contents.{Contents}
 use Rattle.std.proofs.lemmas.Bool.{eq-eqb, eqb-true}
 use Rattle.std.specs.Fmt.{signed_decimal}
-use Rattle.std.specs.List.{AllByRecursion as All}
-use Rattle.text.proofs.Grammar.{Done, Ends, Head, ends_as, ends_ask, ends_asked, ends_assoc, ends_same, ends_word, then_then}
-use Rattle.text.proofs.Spelt.{GainWord, NumberWord, gain_of_complete, gain_of_sound, name_complete, name_sound, number_complete, number_sound}
+use Rattle.text.proofs.Grammar.{Ends, Head, ends_as, ends_ask, ends_asked, ends_assoc, ends_word}
+use Rattle.text.proofs.Spelt.{gain_of_complete, gain_of_sound, name_complete, name_sound, number_complete, number_sound}
 use Rattle.text.specs.Scripts.{IsGain}
 use Rattle.words.specs.Numbers.{between}
-use Rattle.words.specs.Parsing.{Parse, ◌>>=◌, ◌>>◌, ask, asked, gain_word, give, keyword, number_in, ranged, then, word}
-use Rattle.words.specs.Words.{Cursor, Item, Spelling, gain_of, is_name, name, spelling, whole_of}
+use Rattle.words.specs.Parsing.{Parse, ◌>>=◌, ◌>>◌, ask, asked, gain_word, give, keyword, number_in, ranged, word}
+use Rattle.words.specs.Words.{Spelling, gain_of, is_name, name, spelling, whole_of}
 use Rattle.words.specs.declared.faults.ReadFault.TheVariants.{Fit, Form, Number}
 use Rattle.forms.specs.declared.roles.Role.{Role}
 use Rattle.forms.specs.declared.roles.Role.TheVariants.{NewUnit, SetUnit, FreeUnit, NextNode, AnyNode, BusNode}

@@ -1,6 +1,6 @@
 -- What each line's words after the first are.
-use Rattle.std.proofs.Common.{◌≡◌, ℕ, zero, suc, ◌+◌, ◌%◌, ◌^◌, ◌<◌, ◌≤◌, Bool, true, false, cond, not, ◌&&◌, eqb, ltb, leb, ◌⊎◌, List, [], ◌∷◌, ◌++◌, map, length, set, replicate, ℤ, pos, Some, None, Ok, Err, codes, decimal, MatchBool, Option, Result, sym, refl, ap, ◌∙◌, subst, ap₂, inl, inr, ⊎_elim, arith}
-use Rattle.forms.specs.Forms.{bypass_form, count_form, delay_form, fir_form, given_layer, joined_form, kind_form, layer_form, limit_form, line_form, node_form, numbered, pan_form, role_fits, role_most, session_form, some_unit, source_form, taps_form, trim_form, unit_form, unit_or_none, unit_part}
+use Rattle.std.proofs.Common.{◌≡◌, ℕ, zero, suc, ◌+◌, ◌%◌, ◌≤◌, Bool, true, false, cond, not, eqb, ltb, ◌⊎◌, List, [], ◌∷◌, ◌++◌, map, length, set, replicate, ℤ, pos, Some, None, Ok, codes, decimal, MatchBool, Option, sym, refl, ap, ◌∙◌, subst, ap₂, inl, inr, ⊎_elim, arith}
+use Rattle.forms.specs.Forms.{bypass_form, count_form, delay_form, fir_form, given_layer, joined_form, kind_form, layer_form, limit_form, line_form, node_form, numbered, pan_form, role_fits, session_form, some_unit, source_form, taps_form, trim_form, unit_form, unit_or_none, unit_part}
 use Rattle.turns.specs.Turns.{line_turn, node_turn, session_turn, unit_turn}
 use Rattle.forms.specs.declared.roles.Role.TheVariants.{NewUnit, SetUnit, FreeUnit, NextNode, AnyNode, BusNode}
 use Rattle.session.specs.Contents.{Contents, Effect, bus_at, delay, fir, has_bypass, has_trim, is_set, limit, pan, with_bypass, with_line, with_node, with_rate, with_trim, with_unit}
@@ -13,13 +13,12 @@ use Rattle.session.specs.declared.nodes.Node.{Node}
 use Rattle.session.specs.declared.nodes.Source.{Source}
 use Rattle.session.specs.declared.nodes.Source.TheVariants.{Track, Bus}
 use Rattle.std.specs.List.{AllByRecursion as All}
-use Rattle.text.proofs.Grammar.{Done, Ends, Head, ends_as, ends_ask, ends_asked, ends_assoc, ends_cond, ends_cond_bind, ends_done, ends_map, ends_none, ends_same, ends_to, ends_word, head_is, nil_not, not_ok, ok_is, then_then, words_in}
+use Rattle.text.proofs.Grammar.{Done, Ends, Head, ends_ask, ends_assoc, ends_cond, ends_cond_bind, ends_done, ends_map, ends_none, ends_to, ends_word, nil_not, ok_is, words_in}
 use Rattle.text.proofs.Spelt.{name_sound, one_sound}
-use Rattle.text.proofs.Steps.{ACount, AGain, AName, ANumber, ANumbered, ends_count, ends_gain, ends_keyword, ends_numbered, ends_ranged}
+use Rattle.text.proofs.Steps.{AGain, ANumber, ANumbered, ends_count, ends_gain, ends_keyword, ends_numbered, ends_ranged}
 use Rattle.text.specs.Scripts.{IsGain, SourceRange, put_from}
-use Rattle.words.specs.Parsing.{Parse, ◌>>=◌, ◌>>◌, ask, gain_word, give, keyword, no_more, number_in, ranged, refuse, then, word}
+use Rattle.words.specs.Parsing.{Parse, ◌>>=◌, ◌>>◌, gain_word, give, keyword, no_more, ranged, refuse, word}
 use Rattle.words.specs.Words.{Cursor, Item, Spelling, is_name, is_one, name, number, spelling}
-use Rattle.words.specs.declared.faults.ReadFault.{ReadFault}
 use Rattle.words.specs.declared.faults.ReadFault.TheVariants.{Fit, Form, Full}
 
 -- `1 R`

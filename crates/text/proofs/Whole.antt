@@ -1,5 +1,5 @@
 -- A whole line, from its first word.
-use Rattle.std.proofs.Common.{◌≡◌, true, false, is_some, Some, None, Ok, Err, Option, unwrap_or, sym, refl, ap, ◌∙◌, subst}
+use Rattle.std.proofs.Common.{◌≡◌, true, false, is_some, Some, None, Ok, Err, Option, unwrap_or, sym, refl, ap, ◌∙◌}
 use Rattle.session.specs.Contents.{Contents}
 use Rattle.std.proofs.lemmas.Bool.{false≢true}
 use Rattle.words.specs.Parsing.{Parse, asked, give, then, word, ◌>>=◌}

@@ -1,6 +1,5 @@
 -- What a whole line's words are.
-use Rattle.std.proofs.Common.{◌≡◌, Bool, true, List, Some}
-use Rattle.forms.specs.Forms.{layer_form}
+use Rattle.std.proofs.Common.{◌≡◌, List, Some}
 use Rattle.session.specs.Contents.{Contents}
 use Rattle.text.proofs.Grammar.{Done, Ends, Head, ends_asked, ends_done, ends_map, ends_none, ends_word}
 use Rattle.text.proofs.Turned.{LayerRest, LinkRest, NodeRest, SessionRest, UnitRest, ends_layer, ends_link, ends_node, ends_session, ends_unit}

@@ -1,5 +1,5 @@
 -- Scripts: what a session text says, line by line, and how it is spelt.
-use Rattle.std.specs.Prelude.{◌≡◌, ℕ, zero, suc, ◌+◌, ◌%◌, ◌<◌, ◌≤◌, true, List, [], ◌∷◌, ◌++◌, map, length, set, replicate, ℤ, pos, Some, None, codes, decimal, Option, slice_set}
+use Rattle.std.specs.Prelude.{◌≡◌, ℕ, ◌+◌, ◌%◌, ◌<◌, ◌≤◌, true, List, [], ◌∷◌, ◌++◌, map, length, replicate, ℤ, pos, Some, None, codes, decimal, Option, slice_set}
 use Rattle.std.specs.Int.Signed.{mag}
 use Rattle.session.specs.Contents.{Contents, Effect, bypass_fits, delay, fir, limit, line_fits, no_contents, node_fits, pan, trim_fits, unit_fits, with_bypass, with_line, with_node, with_rate, with_trim, with_unit}
 use Rattle.session.specs.declared.nodes.Line.{Line}

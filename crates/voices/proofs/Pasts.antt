@@ -5,8 +5,8 @@ use Rattle.frames.specs.Samples.{silence}
 use Rattle.frames.specs.declared.samples.Frame.{Frame}
 use Rattle.std.proofs.lemmas.Bool.{cases_lt, cases_order, cond-false, cond-true, le-leb, lt-leb}
 use Rattle.std.specs.List.{range_with_len}
-use Rattle.voices.specs.Meaning.{Meaning, Lawful}
-use Rattle.voices.specs.Rules.{back, by_rule, then_heard, voice_after, voice_by}
+use Rattle.voices.specs.Meaning.{Lawful}
+use Rattle.voices.specs.Rules.{then_heard, voice_after, voice_by}
 
 map_counting_shift : {Y : Type 0} (g : ℕ → Y) (a n : ℕ) → map g (range_with_len (a + 1) n) ≡ map (λ i. g (suc i)) (range_with_len a n)
 map_counting_shift g a zero = refl

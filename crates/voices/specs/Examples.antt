@@ -1,7 +1,7 @@
 -- Worked examples of the kinds. A mono signal stands on both sides alike.
-use Rattle.std.specs.Prelude.{◌≡◌, ℕ, true, List, [], ◌∷◌, map, ℤ, pos, negsuc}
+use Rattle.std.specs.Prelude.{◌≡◌, true, List, [], ◌∷◌, map, ℤ, pos, negsuc}
 use Rattle.frames.specs.declared.samples.Frame.{Frame}
-use Rattle.voices.specs.Kinds.{bypass_over, delay_unit, fir_unit, limit_unit, pan_unit, trim_over, weight}
+use Rattle.voices.specs.Kinds.{bypass_over, delay_unit, fir_unit, limit_unit, trim_over, weight}
 
 -- A list of frames with the same sample on both sides.
 abbrev pub mono : List ℤ → List Frame

@@ -1,7 +1,5 @@
 -- Words, one after the other.
-use Rattle.std.proofs.Common.{◌≡◌, ℕ, ◌+◌, ◌<◌, ◌≤◌, true, false, ltb, List, [], ◌∷◌, length, drop, Ok, Err, sym, refl, ap, ◌∙◌, ap₂, ⊎_elim, arith}
-use Rattle.std.proofs.lemmas.Bool.{cases_lt, le-ltb, lt-ltb}
-use Rattle.words.proofs.Cutting.{pieces_none, pieces_some, split_first}
+use Rattle.std.proofs.Common.{◌≡◌, ℕ, ◌+◌, List, [], ◌∷◌, length, Ok, Err, sym, refl, ap, ◌∙◌, arith}
 use Rattle.words.specs.Parsing.{first_word, word}
 use Rattle.words.specs.Pieces.{is_nil, pieces, split}
 use Rattle.words.specs.Words.{cursor, line_words, placed, spelling}

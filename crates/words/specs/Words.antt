@@ -1,5 +1,5 @@
 -- Words with their places.
-use Rattle.std.specs.Prelude.{ℕ, ◌+◌, Bool, false, cond, ◌&&◌, List, [], ◌∷◌, length, ℤ, Some, None, Option, nat_lt}
+use Rattle.std.specs.Prelude.{ℕ, ◌+◌, Bool, false, cond, ◌&&◌, List, [], ◌∷◌, length, ℤ, None, Option, nat_lt}
 use Rattle.std.specs.Str.{bytes_eq}
 use Rattle.words.specs.Bytes.{all_digits, all_letters}
 use Rattle.words.specs.Numbers.{gain, unsigned, whole}

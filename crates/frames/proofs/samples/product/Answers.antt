@@ -1,4 +1,4 @@
-use Rattle.std.proofs.Common.{◌*ℤ◌, ◌∙◌, ap₂, w64, SFits, rules}
+use Rattle.std.proofs.Common.{◌*ℤ◌, ap₂, w64, SFits, rules}
 use Rattle.frames.proofs.samples.product.Goals as goal
 use Rattle.std.proofs.lemmas.Int.{to_z-of_z}
 

@@ -1,4 +1,4 @@
-use Rattle.std.proofs.Common.{◌≡◌, ◌+◌, ◌*◌, ◌<◌, ◌≤◌, ◌++◌, length, get_or, take, pos, vec_items, vec_len, vec_capacity, sym, refl, ap, ◌∙◌, ap₂, arith}
+use Rattle.std.proofs.Common.{◌≡◌, ◌<◌, ◌++◌, length, get_or, take, pos, vec_items, vec_len, sym, refl, ap, ◌∙◌, ap₂, arith}
 use Rattle.listing.proofs.hex.push_lines.Goals as goal
 use Rattle.listing.specs.Hex.{frame_line, frame_lines}
 use Rattle.std.proofs.lemmas.List.{flat_map_more, take_all, take_at, take_more}

@@ -1,4 +1,4 @@
-use Rattle.std.proofs.Common.{◌≡◌, suc, ◌+◌, ◌-◌, ◌<◌, length, drop, sym, ap, ◌∙◌, arith}
+use Rattle.std.proofs.Common.{◌≡◌, suc, ◌+◌, ◌-◌, drop, sym, ap, ◌∙◌, arith}
 use Rattle.listing.proofs.Zeros.{digit_kept, zero_skipped}
 use Rattle.listing.proofs.hex.zeros.Goals as goal
 use Rattle.listing.specs.Hex.{without_zeros}

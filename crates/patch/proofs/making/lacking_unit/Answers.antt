@@ -1,4 +1,4 @@
-use Rattle.std.proofs.Common.{[], length, get_or, None, sym, ap, ◌∙◌, arith, below_more}
+use Rattle.std.proofs.Common.{[], length, None, sym, ap, ◌∙◌, arith, below_more}
 use Rattle.patch.proofs.Finding.{lowest_none, lowest_some}
 use Rattle.patch.proofs.making.lacking_unit.Goals as goal
 use Rattle.patch.specs.Due.{lacks}

@@ -1,4 +1,4 @@
-use Rattle.std.proofs.Common.{get_or, ap, ◌∙◌, arith}
+use Rattle.std.proofs.Common.{get_or, ap, ◌∙◌}
 use Rattle.patch.proofs.Sweeping.{sweeps_on}
 use Rattle.patch.proofs.sweeps.sweep.Goals as goal
 use Rattle.std.proofs.lemmas.List.{length-set}

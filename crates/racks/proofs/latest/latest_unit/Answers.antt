@@ -1,4 +1,4 @@
-use Rattle.std.proofs.Common.{◌≡◌, ℕ, ◌<◌, max, length, take, sym, ap, ◌∙◌, ap₂, arith}
+use Rattle.std.proofs.Common.{ℕ, ◌<◌, max, length, take, sym, ap, ◌∙◌, ap₂, arith}
 use Rattle.frames.specs.declared.samples.Frame.{Frame}
 use Rattle.racks.proofs.latest.latest_unit.Goals as goal
 use Rattle.racks.specs.Rack.{no_unit, unit}

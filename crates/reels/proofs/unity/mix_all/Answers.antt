@@ -1,8 +1,7 @@
 use Rattle.reels.proofs.unity.mix_all.Goals as goal
 use Rattle.reels.specs.Tracks.{all_at_unity}
 use Rattle.std.proofs.lemmas.List.FromFn.{map-range_with_len_more}
-use Rattle.std.specs.List.{range_with_len}
-use Rattle.std.proofs.Common.{◌≡◌, List, [], ◌∷◌, ◌++◌, map, vec_items, sym, ◌∙◌, ap₂, arith}
+use Rattle.std.proofs.Common.{[], ◌∷◌, ◌++◌, sym, ◌∙◌, ap₂, arith}
 
 pub loop-n-preserved : goal.loop-n-preserved
 loop-n-preserved g c =

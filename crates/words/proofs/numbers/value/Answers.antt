@@ -1,4 +1,4 @@
-use Rattle.std.proofs.Common.{◌≡◌, ◌+◌, ◌-◌, ◌*◌, ◌^◌, get_or, drop, sym, ap, ◌∙◌, arith}
+use Rattle.std.proofs.Common.{◌+◌, ◌*◌, drop, sym, ap, ◌∙◌, arith}
 use Rattle.words.proofs.Runs.{digit_at, read_end, read_more, ten_times}
 use Rattle.words.proofs.numbers.value.Goals as goal
 use Rattle.words.specs.Numbers.{read_on}

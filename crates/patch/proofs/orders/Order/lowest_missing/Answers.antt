@@ -1,4 +1,4 @@
-use Rattle.std.proofs.Common.{not, sym, ap, ◌∙◌, arith}
+use Rattle.std.proofs.Common.{not, sym, ap, arith}
 use Rattle.patch.proofs.Finding.{lowest_none, lowest_some}
 use Rattle.patch.proofs.orders.Order.lowest_missing.Goals as goal
 use Rattle.patch.specs.Orders.{listed}

@@ -1,4 +1,4 @@
-use Rattle.std.proofs.Common.{length, refl, ◌∙◌, subst, lit<}
+use Rattle.std.proofs.Common.{length, refl, subst, lit<}
 use Rattle.patch.proofs.Assembling.{along_listed, assembled, fits}
 use Rattle.patch.proofs.patches.made.patch_along.Goals as goal
 use Rattle.patch.specs.Flows.{feeders_kind, lateness_kind}

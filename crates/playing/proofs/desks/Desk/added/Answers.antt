@@ -1,4 +1,4 @@
-use Rattle.std.proofs.Common.{◌≡◌, ◌+◌, ◌<◌, ◌≤◌, List, [], ◌∷◌, ◌++◌, map, length, get_or, take, pos, sym, ap, ◌∙◌, subst, arith}
+use Rattle.std.proofs.Common.{◌<◌, ◌≤◌, [], ◌∷◌, ◌++◌, map, length, get_or, take, pos, sym, ap, ◌∙◌, subst, arith}
 use Rattle.frames.proofs.Totals.{adds_one, AddsUp}
 use Rattle.playing.proofs.Inward.{desk_into}
 use Rattle.playing.proofs.desks.Desk.added.Goals as goal

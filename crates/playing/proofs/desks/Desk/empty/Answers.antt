@@ -1,4 +1,4 @@
-use Rattle.std.proofs.Common.{◌≡◌, ℕ, zero, suc, ◌+◌, ◌<◌, ◌≤◌, get_or, replicate, sym, refl, ap, subst, arith}
+use Rattle.std.proofs.Common.{◌≡◌, ℕ, zero, suc, ◌+◌, ◌<◌, ◌≤◌, get_or, replicate, sym, refl, subst, arith}
 use Rattle.playing.proofs.desks.Desk.empty.Goals as goal
 use Rattle.playing.specs.Arranged.{no_line}
 

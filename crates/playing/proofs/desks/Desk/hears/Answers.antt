@@ -1,4 +1,4 @@
-use Rattle.std.proofs.Common.{◌≡◌, map, pos, sym, ap, ◌∙◌}
+use Rattle.std.proofs.Common.{map, pos, sym, ap, ◌∙◌}
 use Rattle.frames.proofs.Totals.{adds_up_to}
 use Rattle.playing.proofs.desks.Desk.hears.Goals as goal
 use Rattle.playing.specs.Desks.{desk_delay, desk_plan}

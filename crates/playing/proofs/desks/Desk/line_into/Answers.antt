@@ -1,4 +1,4 @@
-use Rattle.std.proofs.Common.{◌≡◌, ◌+◌, ◌<◌, length, get_or, sym, ap, ◌∙◌, subst, ap₂, arith}
+use Rattle.std.proofs.Common.{◌≡◌, ◌+◌, ◌<◌, length, get_or, sym, ap, ◌∙◌, subst, ap₂}
 use Rattle.playing.proofs.Inward.{desk_lines, is_a_line}
 use Rattle.playing.proofs.desks.Desk.line_into.Goals as goal
 use Rattle.playing.specs.Desks.{desk_plan}

@@ -1,4 +1,4 @@
-use Rattle.std.proofs.Common.{◌≡◌, ◌+◌, ◌<◌, ◌≤◌, length, get_or, take, sym, ap, ◌∙◌, ap₂, arith, rules}
+use Rattle.std.proofs.Common.{◌≡◌, ◌<◌, length, sym, ap, ◌∙◌, ap₂, arith, rules}
 use Rattle.playing.proofs.desks.Desk.play_nodes.Goals as goal
 use Rattle.playing.specs.Desks.{desk_delay, desk_order, desk_plan}
 use Rattle.playing.specs.Work.{deck, frame_work, node_work}

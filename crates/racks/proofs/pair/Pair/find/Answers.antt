@@ -2,7 +2,7 @@ use Rattle.racks.proofs.Steps.{pair_first, pair_past, pair_second, pair_steps_fi
 use Rattle.racks.proofs.pair.Pair.find.Goals as goal
 use Rattle.racks.specs.Sides.{Stands}
 use Rattle.racks.specs.declared.sides.Side.TheVariants.{Second}
-use Rattle.std.proofs.Common.{◌-◌, sym, ap, subst, arith}
+use Rattle.std.proofs.Common.{◌-◌, sym, subst, arith}
 
 pub returns-then-s-before : goal.returns-then-s-before
 returns-then-s-before g c =

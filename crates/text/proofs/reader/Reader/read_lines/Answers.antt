@@ -1,4 +1,4 @@
-use Rattle.std.proofs.Common.{◌≡◌, ◌+◌, ◌≤◌, true, Err, sym, ap, ◌∙◌, arith}
+use Rattle.std.proofs.Common.{◌≡◌, true, Err, sym, ap, ◌∙◌, arith}
 use Rattle.session.specs.Contents.{ready}
 use Rattle.session.specs.Drafts.{draft}
 use Rattle.std.proofs.lemmas.Result.{err_from_is_err_and, IfOk-from_err}

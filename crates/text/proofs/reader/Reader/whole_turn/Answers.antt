@@ -1,5 +1,4 @@
-use Rattle.std.proofs.Common.{◌≡◌, true, Ok, sym, ap, ◌∙◌, subst, ap₂}
-use Rattle.session.specs.Contents.{ready}
+use Rattle.std.proofs.Common.{◌≡◌, true, Ok, sym, ◌∙◌, subst, ap₂}
 use Rattle.session.specs.Drafts.{draft}
 use Rattle.text.proofs.Staging.{staged_on}
 use Rattle.text.proofs.Whole.{turn_err, turn_ok}

@@ -1,4 +1,4 @@
-use Rattle.std.proofs.Common.{◌≡◌, refl, arith}
+use Rattle.std.proofs.Common.{refl, arith}
 use Rattle.std.proofs.lemmas.List.{length-drop, length-take}
 use Rattle.words.proofs.Cutting.{pieces_none, pieces_step}
 use Rattle.words.proofs.pieces.Pieces.next.Goals as goal

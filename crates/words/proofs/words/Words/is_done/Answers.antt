@@ -1,4 +1,4 @@
-use Rattle.std.proofs.Common.{◌≡◌, ◌∙◌}
+use Rattle.std.proofs.Common.{◌∙◌}
 use Rattle.words.proofs.Lexing.{done_is}
 use Rattle.words.proofs.words.Words.is_done.Goals as goal
 

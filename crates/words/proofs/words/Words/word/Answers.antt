@@ -1,4 +1,4 @@
-use Rattle.std.proofs.Common.{◌≡◌, ◌+◌, length, Ok, Err, sym, refl, ap, ◌∙◌, ap₂}
+use Rattle.std.proofs.Common.{◌+◌, length, Ok, Err, sym, refl, ap, ◌∙◌, ap₂}
 use Rattle.words.proofs.Lexing.{lex_none, lex_some}
 use Rattle.words.proofs.words.Words.word.Goals as goal
 use Rattle.words.specs.Words.{cursor}

@@ -1,5 +1,5 @@
 use mathlib.Core.Logic.{∥∥₁_map}
-use Rattle.std.proofs.Common.{◌≡◌, sym, ap, ◌∙◌, arith}
+use Rattle.std.proofs.Common.{sym, ◌∙◌, arith}
 use Rattle.session.proofs.Drafting.{draft_node}
 use Rattle.session.proofs.sessions.drafts.Draft.add_node.Goals as goal
 use Rattle.session.specs.Drafts.{drafted}

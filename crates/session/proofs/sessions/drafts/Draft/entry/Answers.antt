@@ -1,4 +1,4 @@
-use Rattle.std.proofs.Common.{◌≡◌, get_or, sym, ap, ◌∙◌, arith}
+use Rattle.std.proofs.Common.{get_or, sym, ap, ◌∙◌, arith}
 use Rattle.session.proofs.Entries.{entry_past, entry_read}
 use Rattle.session.proofs.sessions.drafts.Draft.entry.Goals as goal
 use Rattle.session.specs.Contents.{entry}

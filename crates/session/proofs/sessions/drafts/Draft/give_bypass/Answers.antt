@@ -1,4 +1,4 @@
-use Rattle.std.proofs.Common.{◌≡◌, ◌<◌, length, sym, refl, ap, ◌∙◌, arith, rules}
+use Rattle.std.proofs.Common.{◌<◌, length, sym, refl, ap, ◌∙◌, arith, rules}
 use mathlib.Core.Logic.{∥∥₁_map}
 use Rattle.session.proofs.Drafting.{draft_layer}
 use Rattle.session.proofs.Entries.{after_bypass, set_below}

@@ -1,6 +1,6 @@
-use Rattle.std.proofs.Common.{◌≡◌, ◌+◌, ◌||◌, get_or, drop, None, sym, ap, ◌∙◌}
+use Rattle.std.proofs.Common.{◌+◌, ◌||◌, drop, None, sym, ap, ◌∙◌}
 use Rattle.session.proofs.sessions.drafts.Draft.is_used.Goals as goal
-use Rattle.session.specs.Contents.{names_unit, used}
+use Rattle.session.specs.Contents.{used}
 use Rattle.session.specs.declared.nodes.Node.{Node}
 use Rattle.session.specs.declared.nodes.Source.TheVariants.{Track}
 use Rattle.std.proofs.lemmas.List.{at_drop_more, at_drop_all}

@@ -1,4 +1,4 @@
-use Rattle.std.proofs.Common.{◌≡◌, ◌<◌, true, length, sym, refl, ap, ◌∙◌, arith, rules}
+use Rattle.std.proofs.Common.{◌≡◌, ◌<◌, true, length, sym, ap, ◌∙◌, arith, rules}
 use mathlib.Core.Logic.{∥∥₁_map}
 use Rattle.session.proofs.Drafting.{below_eight, draft_kind, same_units}
 use Rattle.session.proofs.Entries.{after_kind}
