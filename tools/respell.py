@@ -56,6 +56,10 @@ def own_names():
                 names.add(found.group(1))
                 if inside:
                     fields.add(found.group(1))
+    for ending in (".antt", ".rt"):
+        for path in files(ending):
+            for line in re.findall(r"(?m)^(?:ghost )?use .*$", text_of(path)):
+                names.update(re.findall(r" as ([a-zA-Z][\w']*(?:-[\w']+)+)", line))
     return {n for n in names if re.match(r"[^\W\d]", n)}, fields
 
 

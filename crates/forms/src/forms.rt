@@ -1,6 +1,6 @@
 ghost use Rattle.std.specs.Prelude.{◌≡◌, ◌≤◌, true, length, IfOk, nat_lt};
 ghost use Rattle.session.specs.Contents.{bus_at, free, line_fits, node_fits};
-ghost use Rattle.session.specs.Drafts.{draft as contents-of};
+ghost use Rattle.session.specs.Drafts.{draft as contents_of};
 ghost use Rattle.forms.specs.Forms.{joined_form, line_form, node_form, numbered, role_fits, role_most, session_form, some_unit, source_form, unit_part};
 ghost use Rattle.words.specs.Parsing.{gain_word, keyword, paired, ranged};
 ghost use Rattle.words.specs.Words.{cursor, item};
@@ -13,8 +13,8 @@ use words::words::{Token, Words};
 
 // A unit's or a node's number.
 pub fn numbered(draft: &Draft, role: Role, words: &mut Words<'_>) -> Result<u8, ReadFault>
-    ensures value { paired (λ x. x) result (cursor words.new) ≡ numbered (contents-of draft.now) role (cursor words.old) }
-    ensures fits { IfOk result (λ n. (n ≤ role_most role) × (role_fits (contents-of draft.now) role n ≡ true)) }
+    ensures value { paired (λ x. x) result (cursor words.new) ≡ numbered (contents_of draft.now) role (cursor words.old) }
+    ensures fits { IfOk result (λ n. (n ≤ role_most role) × (role_fits (contents_of draft.now) role n ≡ true)) }
 {
     let word = words.word()?;
     let n = word.number(0, most(role))? as u8;
@@ -82,8 +82,8 @@ fn source(words: &mut Words<'_>) -> Result<Source, ReadFault>
 }
 
 fn some_unit(draft: &Draft, words: &mut Words<'_>) -> Result<Option<u8>, ReadFault>
-    ensures value { paired (λ x. x) result (cursor words.new) ≡ some_unit (contents-of draft.now) (cursor words.old) }
-    ensures fits { IfOk result (λ u. free (contents-of draft.now) u ≡ true) }
+    ensures value { paired (λ x. x) result (cursor words.new) ≡ some_unit (contents_of draft.now) (cursor words.old) }
+    ensures fits { IfOk result (λ u. free (contents_of draft.now) u ≡ true) }
 {
     keyword(words, b"unit")?;
     let s = numbered(draft, Role::FreeUnit, words)?;
@@ -93,8 +93,8 @@ fn some_unit(draft: &Draft, words: &mut Words<'_>) -> Result<Option<u8>, ReadFau
 
 // A node's unit, where words for one follow.
 fn unit_part(draft: &Draft, words: &mut Words<'_>) -> Result<Option<u8>, ReadFault>
-    ensures value { paired (λ x. x) result (cursor words.new) ≡ unit_part (contents-of draft.now) (cursor words.old) }
-    ensures fits { IfOk result (λ u. free (contents-of draft.now) u ≡ true) }
+    ensures value { paired (λ x. x) result (cursor words.new) ≡ unit_part (contents_of draft.now) (cursor words.old) }
+    ensures fits { IfOk result (λ u. free (contents_of draft.now) u ≡ true) }
 {
     if words.is_done() {
         return Ok(None);
@@ -103,8 +103,8 @@ fn unit_part(draft: &Draft, words: &mut Words<'_>) -> Result<Option<u8>, ReadFau
 }
 
 pub fn node(draft: &Draft, words: &mut Words<'_>) -> Result<Node, ReadFault>
-    ensures value { paired (λ x. x) result (cursor words.new) ≡ node_form (contents-of draft.now) (cursor words.old) }
-    ensures fits { IfOk result (λ n. node_fits (contents-of draft.now) n ≡ true) }
+    ensures value { paired (λ x. x) result (cursor words.new) ≡ node_form (contents_of draft.now) (cursor words.old) }
+    ensures fits { IfOk result (λ n. node_fits (contents_of draft.now) n ≡ true) }
 {
     numbered(draft, Role::NextNode, words)?;
     let source = source(words)?;
@@ -113,8 +113,8 @@ pub fn node(draft: &Draft, words: &mut Words<'_>) -> Result<Node, ReadFault>
 }
 
 fn joined(draft: &Draft, words: &mut Words<'_>) -> Result<Line, ReadFault>
-    ensures value { paired (λ x. x) result (cursor words.new) ≡ joined_form (contents-of draft.now) (cursor words.old) }
-    ensures fits { IfOk result (λ l. (nat_lt l.start (length (contents-of draft.now).nodes) ≡ true) × (bus_at (contents-of draft.now) l.end ≡ true)) }
+    ensures value { paired (λ x. x) result (cursor words.new) ≡ joined_form (contents_of draft.now) (cursor words.old) }
+    ensures fits { IfOk result (λ l. (nat_lt l.start (length (contents_of draft.now).nodes) ≡ true) × (bus_at (contents_of draft.now) l.end ≡ true)) }
 {
     let start = numbered(draft, Role::AnyNode, words)?;
     let end = numbered(draft, Role::BusNode, words)?;
@@ -125,15 +125,15 @@ fn joined(draft: &Draft, words: &mut Words<'_>) -> Result<Line, ReadFault>
 
 // Whether one line more can be held.
 fn has_room(draft: &Draft) -> bool
-    ensures { result ≡ nat_lt (length (contents-of draft.now).lines) 48 }
+    ensures { result ≡ nat_lt (length (contents_of draft.now).lines) 48 }
 {
     draft.line_count() < 48
 }
 
 // A line; `word` is the first word of its text.
 pub fn line(draft: &Draft, word: &Token<'_>, words: &mut Words<'_>) -> Result<Line, ReadFault>
-    ensures value { paired (λ x. x) result (cursor words.new) ≡ line_form (contents-of draft.now) (item word.now) (cursor words.old) }
-    ensures fits { IfOk result (λ l. line_fits (contents-of draft.now) l ≡ true) }
+    ensures value { paired (λ x. x) result (cursor words.new) ≡ line_form (contents_of draft.now) (item word.now) (cursor words.old) }
+    ensures fits { IfOk result (λ l. line_fits (contents_of draft.now) l ≡ true) }
 {
     if !has_room(draft) {
         return Err(ReadFault::Full(word.place));

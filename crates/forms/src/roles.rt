@@ -1,5 +1,5 @@
 ghost use Rattle.std.specs.Prelude.{◌≡◌, ◌≤◌};
-ghost use Rattle.session.specs.Drafts.{draft as contents-of};
+ghost use Rattle.session.specs.Drafts.{draft as contents_of};
 ghost use Rattle.forms.specs.Forms.{role_fits, role_most};
 
 use session::sessions::drafts::Draft;
@@ -32,7 +32,7 @@ pub fn most(role: Role) -> u32
 
 // Whether a number fits what the draft holds.
 pub fn fits(draft: &Draft, role: Role, n: u8) -> bool
-    ensures { result ≡ role_fits (contents-of draft.now) role n }
+    ensures { result ≡ role_fits (contents_of draft.now) role n }
 {
     match role {
         Role::NewUnit => !draft.is_set(n),

@@ -34,7 +34,9 @@ fn hear<F: Flow>(
     values: &[F::Value; 16],
     v: u8,
 ) -> F::Value
-    requires { (v < 16) × ((Fit lines.now) × (Arranges lines.now inputs.now)) }
+    requires node { v < 16 }
+    requires lines { Fit lines.now }
+    requires inputs { Arranges lines.now inputs.now }
     ensures { result ≡ joined (F.Flow.kind kind.now) (map (λ i. by_node (F.Flow.kind kind.now) values.now (line (plan_of [] lines.now) i).start) (lines_into (plan_of [] lines.now) v)) }
 {
     let mut heard = None;
@@ -60,7 +62,9 @@ pub(crate) fn sweep<F: Flow>(
     inputs: &Inputs,
     order: &[u8],
 ) -> [F::Value; 16]
-    requires { (Fit lines.now) × ((Arranges lines.now inputs.now) × (Along lines.now order.now)) }
+    requires lines { Fit lines.now }
+    requires inputs { Arranges lines.now inputs.now }
+    requires order { Along lines.now order.now }
     ensures length { length result ≡ 16 }
     ensures swept { Swept_to (F.Flow.kind kind.now) lines.now order.now (length order.now) (by_node (F.Flow.kind kind.now) result) }
 {

@@ -9,7 +9,8 @@ mod proved;
 
 // Frame by frame, from rest and a silent tape, node 0's signal under the patch comes out.
 pub fn playing_gives_the_patch() -> bool
-    ensures { (result ≡ true) × (PlaysThePatch) }
+    ensures answer { result ≡ true }
+    ensures plays_the_patch { PlaysThePatch }
 {
     proved::gives_the_patch()
 }

@@ -4,55 +4,67 @@ ghost use Rattle.signals.specs.Theorems.{OneAnswer, MovesInTime, OneIdeal, OneUn
 ghost use Rattle.std.specs.Prelude.{◌≡◌, true};
 
 pub(crate) fn one_answer<X>() -> bool
-    ensures { (result ≡ true) × (OneAnswer X) }
+    ensures answer { result ≡ true }
+    ensures one_answer { OneAnswer X }
 {
     true
 }
 
 pub(crate) fn in_time<X>() -> bool
-    ensures { (result ≡ true) × (MovesInTime X) }
+    ensures answer { result ≡ true }
+    ensures moves_in_time { MovesInTime X }
 {
     true
 }
 
 pub(crate) fn determined() -> bool
-    ensures { (result ≡ true) × ((OneIdeal) × (OneUnder)) }
+    ensures answer { result ≡ true }
+    ensures one_ideal { OneIdeal }
+    ensures one_under { OneUnder }
 {
     true
 }
 
 pub(crate) fn the_mix() -> bool
-    ensures { (result ≡ true) × (AlignedIsIdeal) }
+    ensures answer { result ≡ true }
+    ensures aligned_is_ideal { AlignedIsIdeal }
 {
     true
 }
 
 pub(crate) fn aligned() -> bool
-    ensures { (result ≡ true) × ((OneLateness) × (OursIsAligned)) }
+    ensures answer { result ≡ true }
+    ensures one_lateness { OneLateness }
+    ensures ours_is_aligned { OursIsAligned }
 {
     true
 }
 
 pub(crate) fn least_late() -> bool
-    ensures { (result ≡ true) × ((OneArrival) × (OursIsLeast)) }
+    ensures answer { result ≡ true }
+    ensures one_arrival { OneArrival }
+    ensures ours_is_least { OursIsLeast }
 {
     true
 }
 
 pub(crate) fn short() -> bool
-    ensures { (result ≡ true) × (DelaysStayShort) }
+    ensures answer { result ≡ true }
+    ensures delays_stay_short { DelaysStayShort }
 {
     true
 }
 
 pub(crate) fn comb() -> bool
-    ensures { (result ≡ true) × (Comb) }
+    ensures answer { result ≡ true }
+    ensures comb { Comb }
 {
     true
 }
 
 pub(crate) fn held_longer() -> bool
-    ensures { (result ≡ true) × (HeldLonger) }
+    ensures answer { result ≡ true }
+    ensures held_longer { HeldLonger }
 {
     true
 }

@@ -1,6 +1,6 @@
 ghost use Rattle.std.specs.Prelude.{◌≡◌, ◌≤◌, true, length, IfOk, OnErr, OnOk};
 ghost use Rattle.session.specs.Contents.{contents, no_contents, ready};
-ghost use Rattle.session.specs.Drafts.{draft as contents-of};
+ghost use Rattle.session.specs.Drafts.{draft as contents_of};
 ghost use Rattle.session.specs.Held.{nothing};
 ghost use Rattle.session.specs.Sessions.{held};
 ghost use Rattle.text.specs.Accepted.{Accepts};
@@ -53,7 +53,7 @@ fn close(lines: &Pieces<'_>, row: usize) -> Result<(), ReadFault>
 impl Reader {
     pub fn new(heap: Global) -> Reader
         ensures stage { result.stage ≡ Head }
-        ensures draft { contents-of result.draft ≡ no_contents }
+        ensures draft { contents_of result.draft ≡ no_contents }
     {
         Reader {
             stage: Stage::Head,
@@ -63,8 +63,8 @@ impl Reader {
 
     // A line by its words; true at the end.
     fn whole_turn(&mut self, words: &mut Words<'_>) -> Result<bool, ReadFault>
-        ensures does { Does (λ ended. record { stage = self.new.stage; held = contents-of self.new.draft; ended = ended }) result (cursor words.new) (whole_turn self.old.stage (contents-of self.old.draft) (cursor words.old)) }
-        ensures staged { staged self.old.stage (contents-of self.old.draft) ≡ true → IfOk result (λ ended. (staged self.new.stage (contents-of self.new.draft) ≡ true) × (ended ≡ true → ready (contents-of self.new.draft) ≡ true)) }
+        ensures does { Does (λ ended. record { stage = self.new.stage; held = contents_of self.new.draft; ended = ended }) result (cursor words.new) (whole_turn self.old.stage (contents_of self.old.draft) (cursor words.old)) }
+        ensures staged { staged self.old.stage (contents_of self.old.draft) ≡ true → IfOk result (λ ended. (staged self.new.stage (contents_of self.new.draft) ≡ true) × (ended ≡ true → ready (contents_of self.new.draft) ≡ true)) }
     {
         let word = words.word()?;
         let first = first_of(&word);
@@ -80,8 +80,8 @@ impl Reader {
     // A line of the text; true at the end. `last` says that no 0A ends it.
     fn read_line(&mut self, line: &[u8], row: usize, last: bool) -> Result<bool, ReadFault>
         requires { length line.now ≤ 16384 }
-        ensures does { Gives (λ ended. record { stage = self.new.stage; held = contents-of self.new.draft; ended = ended }) result (line_read row self.old.stage (contents-of self.old.draft) line.now last) }
-        ensures staged { staged self.old.stage (contents-of self.old.draft) ≡ true → IfOk result (λ ended. (staged self.new.stage (contents-of self.new.draft) ≡ true) × (ended ≡ true → ready (contents-of self.new.draft) ≡ true)) }
+        ensures does { Gives (λ ended. record { stage = self.new.stage; held = contents_of self.new.draft; ended = ended }) result (line_read row self.old.stage (contents_of self.old.draft) line.now last) }
+        ensures staged { staged self.old.stage (contents_of self.old.draft) ≡ true → IfOk result (λ ended. (staged self.new.stage (contents_of self.new.draft) ≡ true) × (ended ≡ true → ready (contents_of self.new.draft) ≡ true)) }
     {
         check_bytes(line, row, last)?;
         check_spaces(line, row)?;
@@ -92,8 +92,8 @@ impl Reader {
     // All lines of a text.
     fn read_lines(&mut self, text: &[u8]) -> Result<(), ReadFault>
         requires { length text.now ≤ 16384 }
-        ensures does { Gives (λ _. contents-of self.new.draft) result (lines_read 1 self.old.stage (contents-of self.old.draft) (split 10 text.now)) }
-        ensures ready { staged self.old.stage (contents-of self.old.draft) ≡ true → OnOk result (ready (contents-of self.new.draft) ≡ true) }
+        ensures does { Gives (λ _. contents_of self.new.draft) result (lines_read 1 self.old.stage (contents_of self.old.draft) (split 10 text.now)) }
+        ensures ready { staged self.old.stage (contents_of self.old.draft) ≡ true → OnOk result (ready (contents_of self.new.draft) ≡ true) }
     {
         let mut lines = Pieces::new(text, b'\n');
         let mut row = 1;

@@ -1,6 +1,6 @@
 ghost use Rattle.std.specs.Prelude.{◌≡◌, OnOk};
 ghost use Rattle.turns.specs.Turns.{Does};
-ghost use Rattle.session.specs.Drafts.{draft as contents-of};
+ghost use Rattle.session.specs.Drafts.{draft as contents_of};
 ghost use Rattle.text.specs.Turning.{Grows, turn};
 ghost use Rattle.words.specs.Words.{cursor, item};
 
@@ -17,8 +17,8 @@ pub fn turn(
     word: &Token<'_>,
     words: &mut Words<'_>,
 ) -> Result<(), ReadFault>
-    ensures does { Does (λ _. contents-of draft.new) result (cursor words.new) (turn first (contents-of draft.old) (item word.now) (cursor words.old)) }
-    ensures grows { OnOk result (Grows first (contents-of draft.old) (contents-of draft.new)) }
+    ensures does { Does (λ _. contents_of draft.new) result (cursor words.new) (turn first (contents_of draft.old) (item word.now) (cursor words.old)) }
+    ensures grows { OnOk result (Grows first (contents_of draft.old) (contents_of draft.new)) }
 {
     match first {
         First::Session => session_turn(draft, words),

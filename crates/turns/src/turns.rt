@@ -1,6 +1,6 @@
 ghost use Rattle.std.specs.Prelude.{◌≡◌, ◌+◌, ◌<◌, ◌≤◌, true, length, OnOk};
 ghost use Rattle.session.specs.Contents.{is_set};
-ghost use Rattle.session.specs.Drafts.{draft as contents-of};
+ghost use Rattle.session.specs.Drafts.{draft as contents_of};
 ghost use Rattle.forms.specs.Forms.{bypass_form, given_layer, layer_form, trim_form};
 ghost use Rattle.turns.specs.Turns.{Does, line_turn, node_turn, session_turn, unit_turn};
 ghost use Rattle.words.specs.Words.{cursor, item};
@@ -12,9 +12,9 @@ use words::faults::ReadFault;
 use words::words::{Token, Words};
 
 pub fn session_turn(draft: &mut Draft, words: &mut Words<'_>) -> Result<(), ReadFault>
-    ensures does { Does (λ _. contents-of draft.new) result (cursor words.new) (session_turn (contents-of draft.old) (cursor words.old)) }
-    ensures rate { OnOk result (0 < (contents-of draft.new).rate) }
-    ensures nodes { OnOk result ((contents-of draft.new).nodes ≡ (contents-of draft.old).nodes) }
+    ensures does { Does (λ _. contents_of draft.new) result (cursor words.new) (session_turn (contents_of draft.old) (cursor words.old)) }
+    ensures rate { OnOk result (0 < (contents_of draft.new).rate) }
+    ensures nodes { OnOk result ((contents_of draft.new).nodes ≡ (contents_of draft.old).nodes) }
 {
     let rate = session(words)?;
     draft.set_rate(rate);
@@ -22,9 +22,9 @@ pub fn session_turn(draft: &mut Draft, words: &mut Words<'_>) -> Result<(), Read
 }
 
 pub fn unit_turn(draft: &mut Draft, words: &mut Words<'_>) -> Result<(), ReadFault>
-    ensures does { Does (λ _. contents-of draft.new) result (cursor words.new) (unit_turn (contents-of draft.old) (cursor words.old)) }
-    ensures rate { OnOk result ((contents-of draft.new).rate ≡ (contents-of draft.old).rate) }
-    ensures nodes { OnOk result ((contents-of draft.new).nodes ≡ (contents-of draft.old).nodes) }
+    ensures does { Does (λ _. contents_of draft.new) result (cursor words.new) (unit_turn (contents_of draft.old) (cursor words.old)) }
+    ensures rate { OnOk result ((contents_of draft.new).rate ≡ (contents_of draft.old).rate) }
+    ensures nodes { OnOk result ((contents_of draft.new).nodes ≡ (contents_of draft.old).nodes) }
 {
     let s = numbered(draft, Role::NewUnit, words)?;
     let kind = kind(words, s)?;
@@ -39,10 +39,10 @@ fn trim_layer(
     word: &Token<'_>,
     words: &mut Words<'_>,
 ) -> Result<(), ReadFault>
-    requires { is_set (contents-of draft.old) s ≡ true }
-    ensures does { Does (λ _. contents-of draft.new) result (cursor words.new) (trim_form (contents-of draft.old) s (item word.now) (cursor words.old)) }
-    ensures rate { OnOk result ((contents-of draft.new).rate ≡ (contents-of draft.old).rate) }
-    ensures nodes { OnOk result ((contents-of draft.new).nodes ≡ (contents-of draft.old).nodes) }
+    requires { is_set (contents_of draft.old) s ≡ true }
+    ensures does { Does (λ _. contents_of draft.new) result (cursor words.new) (trim_form (contents_of draft.old) s (item word.now) (cursor words.old)) }
+    ensures rate { OnOk result ((contents_of draft.new).rate ≡ (contents_of draft.old).rate) }
+    ensures nodes { OnOk result ((contents_of draft.new).nodes ≡ (contents_of draft.old).nodes) }
 {
     if draft.has_trim(s) {
         return Err(ReadFault::Fit(word.place));
@@ -59,10 +59,10 @@ fn bypass_layer(
     word: &Token<'_>,
     words: &mut Words<'_>,
 ) -> Result<(), ReadFault>
-    requires { is_set (contents-of draft.old) s ≡ true }
-    ensures does { Does (λ _. contents-of draft.new) result (cursor words.new) (bypass_form (contents-of draft.old) s (item word.now) (cursor words.old)) }
-    ensures rate { OnOk result ((contents-of draft.new).rate ≡ (contents-of draft.old).rate) }
-    ensures nodes { OnOk result ((contents-of draft.new).nodes ≡ (contents-of draft.old).nodes) }
+    requires { is_set (contents_of draft.old) s ≡ true }
+    ensures does { Does (λ _. contents_of draft.new) result (cursor words.new) (bypass_form (contents_of draft.old) s (item word.now) (cursor words.old)) }
+    ensures rate { OnOk result ((contents_of draft.new).rate ≡ (contents_of draft.old).rate) }
+    ensures nodes { OnOk result ((contents_of draft.new).nodes ≡ (contents_of draft.old).nodes) }
 {
     if draft.has_bypass(s) {
         return Err(ReadFault::Fit(word.place));
@@ -78,10 +78,10 @@ fn given_layer(
     word: &Token<'_>,
     words: &mut Words<'_>,
 ) -> Result<(), ReadFault>
-    requires { is_set (contents-of draft.old) s ≡ true }
-    ensures does { Does (λ _. contents-of draft.new) result (cursor words.new) (given_layer (contents-of draft.old) s (item word.now) (cursor words.old)) }
-    ensures rate { OnOk result ((contents-of draft.new).rate ≡ (contents-of draft.old).rate) }
-    ensures nodes { OnOk result ((contents-of draft.new).nodes ≡ (contents-of draft.old).nodes) }
+    requires { is_set (contents_of draft.old) s ≡ true }
+    ensures does { Does (λ _. contents_of draft.new) result (cursor words.new) (given_layer (contents_of draft.old) s (item word.now) (cursor words.old)) }
+    ensures rate { OnOk result ((contents_of draft.new).rate ≡ (contents_of draft.old).rate) }
+    ensures nodes { OnOk result ((contents_of draft.new).nodes ≡ (contents_of draft.old).nodes) }
 {
     if word.is(b"trim") {
         trim_layer(draft, s, word, words)
@@ -93,9 +93,9 @@ fn given_layer(
 }
 
 pub fn layer_turn(draft: &mut Draft, words: &mut Words<'_>) -> Result<(), ReadFault>
-    ensures does { Does (λ _. contents-of draft.new) result (cursor words.new) (layer_form (contents-of draft.old) (cursor words.old)) }
-    ensures rate { OnOk result ((contents-of draft.new).rate ≡ (contents-of draft.old).rate) }
-    ensures nodes { OnOk result ((contents-of draft.new).nodes ≡ (contents-of draft.old).nodes) }
+    ensures does { Does (λ _. contents_of draft.new) result (cursor words.new) (layer_form (contents_of draft.old) (cursor words.old)) }
+    ensures rate { OnOk result ((contents_of draft.new).rate ≡ (contents_of draft.old).rate) }
+    ensures nodes { OnOk result ((contents_of draft.new).nodes ≡ (contents_of draft.old).nodes) }
 {
     let s = numbered(draft, Role::SetUnit, words)?;
     let word = words.word()?;
@@ -103,9 +103,9 @@ pub fn layer_turn(draft: &mut Draft, words: &mut Words<'_>) -> Result<(), ReadFa
 }
 
 pub fn node_turn(draft: &mut Draft, words: &mut Words<'_>) -> Result<(), ReadFault>
-    ensures does { Does (λ _. contents-of draft.new) result (cursor words.new) (node_turn (contents-of draft.old) (cursor words.old)) }
-    ensures rate { OnOk result ((contents-of draft.new).rate ≡ (contents-of draft.old).rate) }
-    ensures nodes { OnOk result (length (contents-of draft.new).nodes ≡ length (contents-of draft.old).nodes + 1) }
+    ensures does { Does (λ _. contents_of draft.new) result (cursor words.new) (node_turn (contents_of draft.old) (cursor words.old)) }
+    ensures rate { OnOk result ((contents_of draft.new).rate ≡ (contents_of draft.old).rate) }
+    ensures nodes { OnOk result (length (contents_of draft.new).nodes ≡ length (contents_of draft.old).nodes + 1) }
 {
     let node = node(draft, words)?;
     match draft.add_node(node) {
@@ -120,9 +120,9 @@ pub fn line_turn(
     word: &Token<'_>,
     words: &mut Words<'_>,
 ) -> Result<(), ReadFault>
-    ensures does { Does (λ _. contents-of draft.new) result (cursor words.new) (line_turn (contents-of draft.old) (item word.now) (cursor words.old)) }
-    ensures rate { OnOk result ((contents-of draft.new).rate ≡ (contents-of draft.old).rate) }
-    ensures nodes { OnOk result ((contents-of draft.new).nodes ≡ (contents-of draft.old).nodes) }
+    ensures does { Does (λ _. contents_of draft.new) result (cursor words.new) (line_turn (contents_of draft.old) (item word.now) (cursor words.old)) }
+    ensures rate { OnOk result ((contents_of draft.new).rate ≡ (contents_of draft.old).rate) }
+    ensures nodes { OnOk result ((contents_of draft.new).nodes ≡ (contents_of draft.old).nodes) }
 {
     let line = line(draft, word, words)?;
     match draft.add_line(line) {

@@ -37,7 +37,8 @@ impl<U: Unit> Bypass<U> {
 
     // What a bypass answers when on: the frame of `late` frames before, where the unit below is so late.
     fn pass(&mut self, f: Frame, late: u8) -> Frame
-        requires { (self.old.settings.on ≡ true) × (late ≡ (U.Unit.meaning self.old.unit).late) }
+        requires on { self.old.settings.on ≡ true }
+        requires late { late ≡ (U.Unit.meaning self.old.unit).late }
         ensures { Steps (bypass_meaning U.Unit.meaning self.old) f result (bypass_meaning U.Unit.meaning self.new) }
     {
         self.past.echo(f, late)

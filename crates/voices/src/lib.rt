@@ -8,7 +8,8 @@ mod proved;
 
 // The worked examples of the kinds, as facts of their definitions.
 pub fn examples_hold() -> bool
-    ensures { (result ≡ true) × (Examples) }
+    ensures answer { result ≡ true }
+    ensures examples { Examples }
 {
     proved::examples()
 }

@@ -15,7 +15,9 @@ pub mod writer;
 // Files in the parts of a buffer, however they lie, make a reel for every session with a node, and each track gives its
 // file's frames. So a head and its frames, written one after the other, are read as the same frames.
 pub fn files_are_read_back() -> bool
-    ensures { (result ≡ true) × ((FilesReadBack) × (RoundTrip)) }
+    ensures answer { result ≡ true }
+    ensures files_read_back { FilesReadBack }
+    ensures round_trip { RoundTrip }
 {
     proved::read_back()
 }
@@ -23,7 +25,9 @@ pub fn files_are_read_back() -> bool
 // A reel is made exactly where the session has a node and each part is empty or lies in the buffer, is as long as a file
 // and begins with its head; and where a head is refused, its place is the first byte that is not the head's.
 pub fn only_files_are_accepted() -> bool
-    ensures { (result ≡ true) × ((AcceptedExactly) × (FirstIsFirst)) }
+    ensures answer { result ≡ true }
+    ensures accepted_exactly { AcceptedExactly }
+    ensures first_is_first { FirstIsFirst }
 {
     proved::accepted()
 }

@@ -24,7 +24,7 @@ fn at_five(part: TrackPart) -> [TrackPart; 8] {
 
 #[test]
 fn the_head_is_the_stock_tools(rt: HostRuntime) {
-    assert!(rt; &head(3, 44100) == &FILE[0..44]);
+    assert!(rt; head(3, 44100).as_slice() == &FILE[0..44]);
 }
 
 #[test]

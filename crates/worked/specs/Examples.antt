@@ -6,7 +6,7 @@ use Rattle.frames.specs.declared.refusals.Layer.TheVariants.{Patch}
 use Rattle.frames.specs.declared.samples.Frame.{Frame}
 use Rattle.frames.specs.declared.samples.Part.{Part}
 use Rattle.patch.specs.Due.{due}
-use Rattle.patch.specs.Examples.{bus as bus-node, ring, two_ways}
+use Rattle.patch.specs.Examples.{bus as bus_node, ring, two_ways}
 use Rattle.patch.specs.Faults.{patch_refusal}
 use Rattle.patch.specs.Flows.{feeders_kind}
 use Rattle.patch.specs.Sweeps.{Swept}
@@ -24,7 +24,7 @@ at_unity z = record { frame = record { left = z; right = z }; gain = pos 16384 }
 
 -- The output alone: a bus without a unit, and no line.
 abbrev pub alone : Plan
-alone = record { nodes = bus-node None ∷ []; lines = [] }
+alone = record { nodes = bus_node None ∷ []; lines = [] }
 
 pub record TenExamples : Type 0 where
   -- Half of 1 is 0 and half of −1 is −1, since scaling rounds down.

@@ -9,7 +9,8 @@ mod proved;
 
 // The ten examples are right.
 pub fn ten_examples_hold() -> bool
-    ensures { (result ≡ true) × (TenExamples) }
+    ensures answer { result ≡ true }
+    ensures ten_examples { TenExamples }
 {
     proved::ten()
 }

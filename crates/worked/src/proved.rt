@@ -2,7 +2,8 @@ ghost use Rattle.std.specs.Prelude.{◌≡◌, true};
 ghost use Rattle.worked.specs.Examples.{TenExamples};
 
 pub(crate) fn ten() -> bool
-    ensures { (result ≡ true) × (TenExamples) }
+    ensures answer { result ≡ true }
+    ensures ten_examples { TenExamples }
 {
     true
 }

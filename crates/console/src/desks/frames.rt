@@ -43,7 +43,8 @@ impl Desk {
 
     // What line `i` brings at frame `n`.
     fn part(&self, tape: &[Frame], n: u32, i: u8) -> Part
-        requires { (i < self.now.total) × (length tape.now ≡ 16384) }
+        requires line { i < self.now.total }
+        requires tape { length tape.now ≡ 16384 }
         ensures { result ≡ brought (desk_plan self.now) (delay_of self.now.patch) (on_tape tape.now) (pos n) i }
     {
         let line = self.lines[usize::from(i)];
@@ -56,7 +57,8 @@ impl Desk {
 
     // What the lines into node `v` bring at frame `n`, added on each side.
     fn added(&self, tape: &[Frame], n: u32, v: u8) -> Sum
-        requires { (v < 16) × (length tape.now ≡ 16384) }
+        requires node { v < 16 }
+        requires tape { length tape.now ≡ 16384 }
         ensures { AddsUp result (map (brought (desk_plan self.now) (delay_of self.now.patch) (on_tape tape.now) (pos n)) (lines_into (desk_plan self.now) v)) }
     {
         let mut sum = Sum::new();
@@ -77,7 +79,8 @@ impl Desk {
 
     // What node `v` hears at frame `n`.
     fn hears<L: Reel>(&self, reel: &L, tape: &[Frame], n: u32, v: u8) -> Frame
-        requires { (v < self.now.count) × (length tape.now ≡ 16384) }
+        requires node { v < self.now.count }
+        requires tape { length tape.now ≡ 16384 }
         ensures { result ≡ hears (desk_plan self.now) (delay_of self.now.patch) (L.tracks reel.now) tape.now n v }
     {
         match self.node(v).source {
@@ -88,7 +91,8 @@ impl Desk {
 
     // The work on node `v` at frame `n`.
     fn play_node<R: Rack, L: Reel>(&self, rack: &mut R, reel: &L, tape: &mut [Frame], n: u32, v: u8)
-        requires { (v < self.now.count) × (length tape.old ≡ 16384) }
+        requires node { v < self.now.count }
+        requires tape { length tape.old ≡ 16384 }
         ensures { deck (R.units rack.new) tape.new ≡ node_work (desk_plan self.now) (delay_of self.now.patch) (L.tracks reel.now) n (deck (R.units rack.old) tape.old) v }
     {
         let heard = self.hears(reel, tape, n, v);
@@ -116,7 +120,9 @@ impl Desk {
         n: u32,
         k: u32,
     )
-        requires { (length tape.old ≡ 16384) × ((k < length out.old) × (n + k < 4294967296)) }
+        requires tape { length tape.old ≡ 16384 }
+        requires inside { k < length out.old }
+        requires fits { n + k < 4294967296 }
         ensures deck { deck (R.units rack.new) tape.new ≡ frame_work (desk_plan self.now) (ordered_nodes self.now.patch) (delay_of self.now.patch) (L.tracks reel.now) (n + k) (deck (R.units rack.old) tape.old) }
         ensures out { out.new ≡ slice_set out.old k (on_tape tape.new 0 (pos (n + k))) }
     {
@@ -133,7 +139,8 @@ impl Desk {
         out: &mut [Frame],
         n: u32,
     )
-        requires { (length tape.old ≡ 16384) × (n + length out.old ≤ 1073741824) }
+        requires tape { length tape.old ≡ 16384 }
+        requires end { n + length out.old ≤ 1073741824 }
         ensures deck { deck (R.units rack.new) tape.new ≡ after_frames (desk_plan self.now) (ordered_nodes self.now.patch) (delay_of self.now.patch) (L.tracks reel.now) (length out.old) n (deck (R.units rack.old) tape.old) }
         ensures out { out.new ≡ frames_out (desk_plan self.now) (ordered_nodes self.now.patch) (delay_of self.now.patch) (L.tracks reel.now) (length out.old) n (deck (R.units rack.old) tape.old) }
     {

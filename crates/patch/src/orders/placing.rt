@@ -9,7 +9,8 @@ use session::nodes::{Line, Node};
 
 // The lowest node that can follow those of an order.
 fn next_node(nodes: usize, lines: &[Line], order: &Order) -> Option<u8>
-    requires { (nodes ≤ 16) × (((i : ℕ) → i < length lines.now → (line (plan_of [] lines.now) i).start < 16)) }
+    requires nodes { nodes ≤ 16 }
+    requires starts { (i : ℕ) → i < length lines.now → (line (plan_of [] lines.now) i).start < 16 }
     ensures { MatchOption result ((w : ℕ) → w < nodes → Follows (plan_of [] lines.now) (listed order.now) w → ⊥) (λ v. (v < nodes) × Follows (plan_of [] lines.now) (listed order.now) v × ((w : ℕ) → w < v → Follows (plan_of [] lines.now) (listed order.now) w → ⊥)) }
 {
     'nodes: for v in 0..nodes {
@@ -28,7 +29,8 @@ fn next_node(nodes: usize, lines: &[Line], order: &Order) -> Option<u8>
 
 // The order in which the nodes are placed: again and again the lowest that can follow.
 pub(crate) fn place(nodes: &[Node], lines: &[Line]) -> Order
-    requires { (length nodes.now ≤ 16) × (Fit lines.now) }
+    requires nodes { length nodes.now ≤ 16 }
+    requires lines { Fit lines.now }
     ensures { listed result ≡ order_of (plan_of nodes.now lines.now) }
 {
     let mut order = Order::empty();

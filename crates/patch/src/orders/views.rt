@@ -50,7 +50,8 @@ impl Order {
     }
 
     pub(crate) fn push(&mut self, v: u8)
-        requires { (v < 16) × (length (listed self.old) < 16) }
+        requires node { v < 16 }
+        requires room { length (listed self.old) < 16 }
         ensures { listed self.new ≡ listed self.old ++ v ∷ [] }
     {
         self.nodes[self.count] = v;

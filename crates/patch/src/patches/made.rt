@@ -44,7 +44,9 @@ pub(crate) fn sessions_order(session: &Session, count: u8) -> Result<Order, Patc
 
 // What is found along an order.
 fn patch_along<R: Rack>(nodes: &[Node], lines: &[Line], rack: &R, order: Order) -> Patch
-    requires { (KeepsRules (plan_of nodes.now lines.now)) × ((due (plan_of nodes.now lines.now) (R.Rack.units rack.now) ≡ None) × (listed order ≡ order_of (plan_of nodes.now lines.now))) }
+    requires rules { KeepsRules (plan_of nodes.now lines.now) }
+    requires due { due (plan_of nodes.now lines.now) (R.Rack.units rack.now) ≡ None }
+    requires order { listed order ≡ order_of (plan_of nodes.now lines.now) }
     ensures { OurPatch (plan_of nodes.now lines.now) (R.Rack.units rack.now) result }
 {
     let units = unit_latenesses(nodes, rack);
@@ -64,7 +66,8 @@ fn patch_along<R: Rack>(nodes: &[Node], lines: &[Line], rack: &R, order: Order) 
 
 // The patch of a session's nodes along their order.
 pub(crate) fn sessions_patch<R: Rack>(session: &Session, rack: &R, order: Order) -> Patch
-    requires { (due (held session.now).plan (R.Rack.units rack.now) ≡ None) × (listed order ≡ order_of (held session.now).plan) }
+    requires due { due (held session.now).plan (R.Rack.units rack.now) ≡ None }
+    requires order { listed order ≡ order_of (held session.now).plan }
     ensures { OurPatch (held session.now).plan (R.Rack.units rack.now) result }
 {
     patch_along(session.nodes(), session.lines(), rack, order)

@@ -5,19 +5,24 @@ ghost use Rattle.patch.specs.Placing.{OneOrder, OrderedIsPlaced, PlacedIsOrdered
 ghost use Rattle.patch.specs.Sweeps.{OneSweep};
 
 pub(crate) fn placing() -> bool
-    ensures { (result ≡ true) × ((OneOrder) × ((PlacedIsOrdered) × (OrderedIsPlaced))) }
+    ensures answer { result ≡ true }
+    ensures one_order { OneOrder }
+    ensures placed_is_ordered { PlacedIsOrdered }
+    ensures ordered_is_placed { OrderedIsPlaced }
 {
     true
 }
 
 pub(crate) fn one_sweep<X>() -> bool
-    ensures { (result ≡ true) × (OneSweep X) }
+    ensures answer { result ≡ true }
+    ensures one_sweep { OneSweep X }
 {
     true
 }
 
 pub(crate) fn examples() -> bool
-    ensures { (result ≡ true) × (Worked) }
+    ensures answer { result ≡ true }
+    ensures worked { Worked }
 {
     true
 }

@@ -35,7 +35,8 @@ fn through<R: Rack>(rack: &mut R, node: Node, heard: Frame) -> Frame
 impl Desk {
     // What line `i` brings at frame `n`.
     fn part(&self, tape: &[Frame], n: u32, i: u8) -> Part
-        requires { (i < self.now.total) × (length tape.now ≡ 16384) }
+        requires line { i < self.now.total }
+        requires tape { length tape.now ≡ 16384 }
         ensures { result ≡ brought (desk_plan self.now) (desk_delay self.now) (on_tape tape.now) (pos n) i }
     {
         let line = self.lines[usize::from(i)];
@@ -48,7 +49,8 @@ impl Desk {
 
     // The number of the `j`-th line into node `v`.
     fn line_into(&self, v: u8, j: u8) -> u8
-        requires { (v < 16) × (j < slice_index self.now.counts v) }
+        requires node { v < 16 }
+        requires line { j < slice_index self.now.counts v }
         ensures number { result ≡ slice_index (lines_into (desk_plan self.now) v) j }
         ensures inside { result < self.now.total }
     {
@@ -57,7 +59,8 @@ impl Desk {
 
     // What the lines into node `v` bring at frame `n`, added on each side.
     fn added(&self, tape: &[Frame], n: u32, v: u8) -> Sum
-        requires { (v < 16) × (length tape.now ≡ 16384) }
+        requires node { v < 16 }
+        requires tape { length tape.now ≡ 16384 }
         ensures { AddsUp result (map (brought (desk_plan self.now) (desk_delay self.now) (on_tape tape.now) (pos n)) (lines_into (desk_plan self.now) v)) }
     {
         let mut sum = Sum::new();
@@ -77,7 +80,8 @@ impl Desk {
 
     // What node `v` hears at frame `n`.
     fn hears<L: Reel>(&self, reel: &L, tape: &[Frame], n: u32, v: u8) -> Frame
-        requires { (v < self.now.count) × (length tape.now ≡ 16384) }
+        requires node { v < self.now.count }
+        requires tape { length tape.now ≡ 16384 }
         ensures { result ≡ hears (desk_plan self.now) (desk_delay self.now) (L.tracks reel.now) tape.now n v }
     {
         match self.node(v).source {
@@ -88,7 +92,8 @@ impl Desk {
 
     // The work on node `v` at frame `n`.
     fn play_node<R: Rack, L: Reel>(&self, rack: &mut R, reel: &L, tape: &mut [Frame], n: u32, v: u8)
-        requires { (v < self.now.count) × (length tape.old ≡ 16384) }
+        requires node { v < self.now.count }
+        requires tape { length tape.old ≡ 16384 }
         ensures { deck (R.units rack.new) tape.new ≡ node_work (desk_plan self.now) (desk_delay self.now) (L.tracks reel.now) n (deck (R.units rack.old) tape.old) v }
     {
         let heard = self.hears(reel, tape, n, v);

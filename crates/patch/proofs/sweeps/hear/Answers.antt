@@ -10,14 +10,14 @@ use Rattle.std.proofs.lemmas.List.{get_or_default}
 pub loop-at-init : goal.loop-at-init
 loop-at-init g c =
     hears_first (g.F.Flow.kind c.args.kind.now) c.args.lines.now c.args.inputs.now c.args.values.now c.args.v
-    c.requires.1.1 c.requires.0
+    c.requires.inputs c.requires.node
 
 pub loop-at-smaller : goal.loop-at-smaller
 loop-at-smaller g c =
     let next = c.args.inputs.now.next in
     let i = c.in-Some.i in
     subst (λ at. left_from (get_or next i None) < left_from at) (sym c.in-Some.is)
-    (left_falls next i c.requires.1.1.rising (omega (arith, c.loop-at.invariant.0 i c.in-Some.is, c.requires.1.0.few)))
+    (left_falls next i c.requires.inputs.rising (omega (arith, c.loop-at.invariant.0 i c.in-Some.is, c.requires.lines.few)))
 
 pub loop-at-preserved : goal.loop-at-preserved
 loop-at-preserved g c =
@@ -29,7 +29,7 @@ loop-at-preserved g c =
     let x = get_or values start c.index-values-lines.result in
     let read : x ≡ value_at kind lines values i =
     get_or_default values start c.index-values-lines.result kind.start
-    (omega (arith, c.type_inv.values, c.requires.1.0.starts i (c.loop-at.invariant.0 i c.in-Some.is))) in
+    (omega (arith, c.type_inv.values, c.requires.lines.starts i (c.loop-at.invariant.0 i c.in-Some.is))) in
     hears_on kind lines c.args.inputs.now values c.args.v c.loop-at.heard (Some c.match-heard.heard) c.loop-at.at i
     c.match-heard.heard c.loop-at.invariant c.in-Some.is refl
     (elim c.match-heard.branch [

@@ -3,4 +3,4 @@ use Rattle.signals.proofs.Latenesses.{one_lateness, ours_is_aligned}
 use Rattle.signals.proofs.proved.aligned.Goals as goal
 
 pub returns : goal.returns
-returns c = (refl, (one_lateness, ours_is_aligned))
+returns c = record { answer = refl; one_lateness = one_lateness; ours_is_aligned = ours_is_aligned }

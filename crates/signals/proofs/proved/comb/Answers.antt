@@ -3,4 +3,4 @@ use Rattle.signals.proofs.Sessions.{comb}
 use Rattle.signals.proofs.proved.comb.Goals as goal
 
 pub returns : goal.returns
-returns c = (refl, comb)
+returns c = record { answer = refl; comb = comb }

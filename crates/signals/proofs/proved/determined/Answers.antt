@@ -3,4 +3,4 @@ use Rattle.signals.proofs.Existence.{one_ideal, one_under}
 use Rattle.signals.proofs.proved.determined.Goals as goal
 
 pub returns : goal.returns
-returns c = (refl, (one_ideal, one_under))
+returns c = record { answer = refl; one_ideal = one_ideal; one_under = one_under }

@@ -3,4 +3,4 @@ use Rattle.signals.proofs.Listening.{moves_in_time}
 use Rattle.signals.proofs.proved.in_time.Goals as goal
 
 pub returns : goal.returns
-returns g c = (refl, moves_in_time _)
+returns g c = record { answer = refl; moves_in_time = moves_in_time _ }

@@ -3,4 +3,4 @@ use Rattle.signals.proofs.Latenesses.{delays_stay_short}
 use Rattle.signals.proofs.proved.short.Goals as goal
 
 pub returns : goal.returns
-returns c = (refl, delays_stay_short)
+returns c = record { answer = refl; delays_stay_short = delays_stay_short }

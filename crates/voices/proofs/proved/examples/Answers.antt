@@ -3,9 +3,9 @@ use Rattle.voices.proofs.Weights.{weighs_by, weight_is}
 use Rattle.voices.proofs.proved.examples.Goals as goal
 
 pub returns : goal.returns
-returns c = (
-  refl,
-  record {
+returns c = record {
+  answer = refl;
+  examples = record {
     delayed = refl;
     filtered = refl;
     limited = refl;
@@ -16,5 +16,5 @@ returns c = (
     bypassed = refl;
     bypassed_late = refl;
     trimmed_up = refl;
-  },
-)
+  };
+}

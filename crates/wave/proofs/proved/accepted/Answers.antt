@@ -3,4 +3,4 @@ use Rattle.wave.proofs.Accepting.{accepted_exactly, first_is_first}
 use Rattle.wave.proofs.proved.accepted.Goals as goal
 
 pub returns : goal.returns
-returns c = (refl, (accepted_exactly, first_is_first))
+returns c = record { answer = refl; accepted_exactly = accepted_exactly; first_is_first = first_is_first }

@@ -3,4 +3,4 @@ use Rattle.wave.proofs.Reading.{files_read_back, round_trip}
 use Rattle.wave.proofs.proved.read_back.Goals as goal
 
 pub returns : goal.returns
-returns c = (refl, (files_read_back, round_trip))
+returns c = record { answer = refl; files_read_back = files_read_back; round_trip = round_trip }

@@ -4,9 +4,9 @@ use Rattle.voices.proofs.Weights.{weighs_by, weight_is}
 use Rattle.worked.proofs.proved.ten.Goals as goal
 
 pub returns : goal.returns
-returns c = (
-  refl,
-  record {
+returns c = record {
+  answer = refl;
+  ten_examples = record {
     halved = (refl, refl);
     delayed = refl;
     summed = refl;
@@ -21,5 +21,5 @@ returns c = (
     by_itself = λ rack. (refl, λ late ours. ours 0 (lit< tt), λ sets swept. swept 0 (lit< tt));
     held = worked.late;
     refused = λ rack. (refl, refl);
-  },
-)
+  };
+}

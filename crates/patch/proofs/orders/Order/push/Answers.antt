@@ -23,7 +23,7 @@ invariant_of-self c =
     let short : self.count < 16 = omega (arith, length-take-le self.count self.nodes (omega (arith, self.sixteen.0, self.sixteen.2))) in
     record {
       sixteen = (length-set self.nodes self.count c.args.v ∙ self.sixteen.0, length-set self.placed c.args.v true ∙ self.sixteen.1, omega arith);
-      agrees = agrees self.nodes self.placed self.count c.args.v self.sixteen.0 self.sixteen.1 short c.requires.0 self.agrees;
+      agrees = agrees self.nodes self.placed self.count c.args.v self.sixteen.0 self.sixteen.1 short c.requires.node self.agrees;
     }
 
 pub returns : goal.returns

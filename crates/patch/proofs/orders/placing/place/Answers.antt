@@ -7,7 +7,7 @@ use Rattle.patch.specs.Placing.{plan_of}
 use Rattle.std.proofs.lemmas.List.{length_push}
 
 pub push-requires : goal.push-requires
-push-requires c = (omega (arith, c.in-Some.ensures.0), omega arith)
+push-requires c = record { node = omega (arith, c.in-Some.ensures.0); room = omega arith }
 
 pub loop-order-smaller : goal.loop-order-smaller
 loop-order-smaller c =

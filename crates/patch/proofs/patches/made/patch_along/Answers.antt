@@ -8,17 +8,17 @@ use Rattle.patch.specs.Sweeps.{Swept_to, by_node}
 pub sweep-late-requires : goal.sweep-late-requires
 sweep-late-requires g c =
     let p = plan_of c.args.nodes.now c.args.lines.now in
-    let rules = c.requires.0 in (
+    let rules = c.requires.rules in (
       lit< tt,
-      (fits p rules, (c.arrange-inputs.ensures, along_listed p rules _ _ c.nodes.ensures c.requires.1.1)),
+      (fits p rules, (c.arrange-inputs.ensures, along_listed p rules _ _ c.nodes.ensures c.requires.order)),
     )
 
 pub sweep-fed-requires : goal.sweep-fed-requires
 sweep-fed-requires g c =
     let p = plan_of c.args.nodes.now c.args.lines.now in
-    let rules = c.requires.0 in (
+    let rules = c.requires.rules in (
       lit< tt,
-      (fits p rules, (c.arrange-inputs.ensures, along_listed p rules _ _ c.nodes-2.ensures c.requires.1.1)),
+      (fits p rules, (c.arrange-inputs.ensures, along_listed p rules _ _ c.nodes-2.ensures c.requires.order)),
     )
 
 pub returns : goal.returns
@@ -26,7 +26,7 @@ returns g c =
     let p = plan_of c.args.nodes.now c.args.lines.now in
     let rack = c.args.rack.now in
     let units = c.unit_latenesses-units.result in
-    assembled p (g.R.Rack.units rack) _ units c.requires.0 (g.R.Rack.lawful rack) c.requires.1.0 c.requires.1.1 refl c.arrange-inputs.ensures
+    assembled p (g.R.Rack.units rack) _ units c.requires.rules (g.R.Rack.lawful rack) c.requires.due c.requires.order refl c.arrange-inputs.ensures
     c.unit_latenesses-units.ensures.units
     (subst (λ xs. Swept_to (lateness_kind units) p.lines xs (length xs) (by_node (lateness_kind units) c.sweep-late.result))
     c.nodes.ensures c.sweep-late.ensures.swept)

@@ -12,10 +12,9 @@ pub patch_along-requires : goal.patch_along-requires
 patch_along-requires g c =
     let session = c.args.session.now in
     let p = (held session).plan in
-    let rack = g.R.Rack.units c.args.rack.now in (
-      of_same KeepsRules p _ _ c.nodes.ensures c.lines.ensures (full session (some_node p rack c.requires.0)).keeps,
-      (
-        of_same (λ p. due p rack ≡ None) p _ _ c.nodes.ensures c.lines.ensures c.requires.0,
-        of_same (λ p. listed c.args.order ≡ order_of p) p _ _ c.nodes.ensures c.lines.ensures c.requires.1,
-      ),
-    )
+    let rack = g.R.Rack.units c.args.rack.now in
+    record {
+      rules = of_same KeepsRules p _ _ c.nodes.ensures c.lines.ensures (full session (some_node p rack c.requires.due)).keeps;
+      due = of_same (λ p. due p rack ≡ None) p _ _ c.nodes.ensures c.lines.ensures c.requires.due;
+      order = of_same (λ p. listed c.args.order ≡ order_of p) p _ _ c.nodes.ensures c.lines.ensures c.requires.order;
+    }

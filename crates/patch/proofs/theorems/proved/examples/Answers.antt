@@ -3,4 +3,4 @@ use Rattle.patch.proofs.Working.{worked}
 use Rattle.patch.proofs.theorems.proved.examples.Goals as goal
 
 pub returns : goal.returns
-returns c = (refl, worked)
+returns c = record { answer = refl; worked = worked }

@@ -16,8 +16,8 @@ loop-j-preserved c =
     let inward = lines_into (desk_plan d) v in
     let make = brought (desk_plan d) (desk_delay d) (on_tape c.args.tape.now) (pos c.args.n) in
     let h = c.add.ensures in
-    let count = d.counted v c.requires.0 in
-    let most = desk_into d v c.requires.0 in
+    let count = d.counted v c.requires.node in
+    let most = desk_into d v c.requires.node in
     let within : j < length inward = subst (λ k. j < k) (ap (λ i. get_or d.counts i 0) c.from.ensures ∙ count) c.loop-j-test.true in
     let few : length (map make (take j inward)) < 48 = simp (length-map, length-take) (omega arith) in
     let one = adds_one c.loop-j.sum c.add.new.self (map make (take j inward)) c.part.result c.add.result c.loop-j.invariant few h.room h.left h.right h.lines in
@@ -29,5 +29,5 @@ returns c =
     let v = c.args.v in
     let inward = lines_into (desk_plan d) v in
     let make = brought (desk_plan d) (desk_delay d) (on_tape c.args.tape.now) (pos c.args.n) in
-    let count = d.counted v c.requires.0 in
+    let count = d.counted v c.requires.node in
     subst (λ l. AddsUp c.loop-j.sum (map make l)) (take_all c.loop-j.j inward (subst (λ k. k ≤ c.loop-j.j) (ap (λ i. get_or d.counts i 0) c.from.ensures ∙ count) c.loop-j-test.false)) c.loop-j.invariant
