@@ -14,7 +14,7 @@ use Rattle.signals.proofs.Lines.{all_lines}
 use Rattle.std.proofs.lemmas.List.FromFn.{length-range_with_len}
 use Rattle.std.proofs.lemmas.List.{append_assoc, append-nil, length-map, length-take-le, map-append}
 use Rattle.std.proofs.lemmas.List.Sums.{count_by-le-length, length-filter}
-use Rattle.std.specs.List.{range_with_len, AllByRecursion as All}
+use Rattle.std.specs.List.{range_with_len, AllByRecursion}
 
 pub desk_lines : (d : Desk) → length (desk_plan d).lines ≡ d.total
 desk_lines d = length-take-le d.total d.lines (omega (arith, d.sizes.1, d.sizes.4))
@@ -38,7 +38,7 @@ pub record Adding (d : Desk) (make : ℕ → Part) (v : ℕ) (sum : Sum) (at : O
   pub rest : List ℕ
   pub all : done ++ rest ≡ lines_into (desk_plan d) v
   pub linked : Links (next_after d.patch.inputs) at rest
-  pub inside : All (λ i. i < d.total) rest
+  pub inside : AllByRecursion (λ i. i < d.total) rest
   pub added : AddsUp sum (map make done)
 
 pub adds_first : (d : Desk) (make : ℕ → Part) (v : ℕ) (sum : Sum) → v < 16 → AddsUp sum [] → Adding d make v sum (first_into d.patch.inputs v)

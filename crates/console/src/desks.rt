@@ -7,8 +7,8 @@ use patch::patches::Patch;
 use session::nodes::{Line, Node};
 
 pub mod empty;
-pub mod frames;
 pub mod making;
+pub mod works;
 
 // A session's nodes and lines, how long each line is held, and the patch with the order of the nodes and the lines by
 // their ends.

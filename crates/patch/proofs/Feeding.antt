@@ -12,7 +12,7 @@ use Rattle.signals.specs.Patches.{Ordered}
 use Rattle.std.proofs.lemmas.Nat.{div_below, or_shr, pow-add, pow_below, pow_pos, shl-shr}
 use Rattle.std.proofs.lemmas.Bool.{both_ways, cases_eq, cases_lt, or_cases, or_left, or_right}
 use Rattle.std.proofs.lemmas.Bool.Decides.{nat_tests}
-use Rattle.std.specs.List.{AllByRecursion as All}
+use Rattle.std.specs.List.{AllByRecursion}
 
 -- Bits.
 or_bit : (x y : ℕ) → bit_or x y % 2 ≡ max (x % 2) (y % 2)
@@ -52,7 +52,7 @@ joined_first : (w x : ℕ) (f : ℕ → ℕ) (is : List ℕ) → in_set x w ≡ 
 joined_first w x f [] t = t
 joined_first w x f (i ∷ is) t = joined_first w (bit_or x (f i)) f is (in_or x (f i) w ∙ or_left (in_set x w) (in_set (f i) w) t)
 
-joined_each : (w x : ℕ) (f : ℕ → ℕ) (is : List ℕ) → All (λ i. in_set (f i) w ≡ true → in_set (joined_on bit_or x (map f is)) w ≡ true) is
+joined_each : (w x : ℕ) (f : ℕ → ℕ) (is : List ℕ) → AllByRecursion (λ i. in_set (f i) w ≡ true → in_set (joined_on bit_or x (map f is)) w ≡ true) is
 joined_each w x f [] = tt
 joined_each w x f (i ∷ is) = (
   (λ t. joined_first w (bit_or x (f i)) f is (in_or x (f i) w ∙ or_right (in_set x w) (in_set (f i) w) t)),
@@ -60,18 +60,18 @@ joined_each w x f (i ∷ is) = (
 )
 
 joined_only : (Q : Type 0) (w x : ℕ) (f : ℕ → ℕ) (is : List ℕ) → in_set (joined_on bit_or x (map f is)) w ≡ true → (in_set x w ≡ true → Q)
-    → All (λ i. in_set (f i) w ≡ true → Q) is → Q
+    → AllByRecursion (λ i. in_set (f i) w ≡ true → Q) is → Q
 joined_only Q w x f [] t first all = first t
 joined_only Q w x f (i ∷ is) t first all =
     joined_only Q w (bit_or x (f i)) f is t
     (λ u. elim (or_cases (in_set x w) (in_set (f i) w) (sym (in_or x (f i) w) ∙ u)) [ inl a ↦ first a | inr b ↦ all.0 b ]) all.1
 
-sets_each : (w : ℕ) (f : ℕ → ℕ) (is : List ℕ) → All (λ i. in_set (f i) w ≡ true → in_set (joined feeders_kind (map f is)) w ≡ true) is
+sets_each : (w : ℕ) (f : ℕ → ℕ) (is : List ℕ) → AllByRecursion (λ i. in_set (f i) w ≡ true → in_set (joined feeders_kind (map f is)) w ≡ true) is
 sets_each w f [] = tt
 sets_each w f (i ∷ is) = (joined_first w (f i) f is, joined_each w (f i) f is)
 
 sets_only : (Q : Type 0) (w : ℕ) (f : ℕ → ℕ) (is : List ℕ) → in_set (joined feeders_kind (map f is)) w ≡ true
-    → All (λ i. in_set (f i) w ≡ true → Q) is → Q
+    → AllByRecursion (λ i. in_set (f i) w ≡ true → Q) is → Q
 sets_only Q w f [] t all = absurd (both_ways (in_set 0 w) (in_small 0 w (pow_pos w)) t)
 sets_only Q w f (i ∷ is) t all = joined_only Q w (f i) f is t all.0 all.1
 

@@ -6,13 +6,13 @@ use Rattle.session.specs.Plan.{Plan, line, lines_into}
 use Rattle.signals.proofs.Lines.{EachInto, all_lines, each_line}
 use Rattle.std.proofs.lemmas.Bool.{and_from, and_parts, both_ways, cases_Bool, not_from_false, not-true}
 use Rattle.std.proofs.ByRecursion.{Decides-by_and}
-use Rattle.std.specs.List.{AllByRecursion as All}
+use Rattle.std.specs.List.{AllByRecursion}
 
 -- All lines into v start at nodes of the order.
 abbrev pub HeardFrom : Plan → List ℕ → ℕ → Type 0
 HeardFrom p order v = EachInto p v (λ i. stands order (line p i).start ≡ true)
 
-decides_every : (test : ℕ → Bool) (xs : List ℕ) → Decides (every test xs) (All (λ i. test i ≡ true) xs)
+decides_every : (test : ℕ → Bool) (xs : List ℕ) → Decides (every test xs) (AllByRecursion (λ i. test i ≡ true) xs)
 decides_every test xs = Decides-by_and test (λ i. test i ≡ true) (every test) (λ i. ((λ h. h), (λ h. h))) refl (λ _ _. refl) xs
 
 module _ (p : Plan) (order : List ℕ) (v : ℕ) where

@@ -9,7 +9,7 @@ use Rattle.patch.specs.declared.inputs.Inputs.{Inputs}
 use Rattle.session.specs.Plan.{line, lines_into}
 use Rattle.session.specs.declared.nodes.Line.{Line}
 use Rattle.signals.proofs.Lines.{all_lines}
-use Rattle.std.specs.List.{AllByRecursion as All}
+use Rattle.std.specs.List.{AllByRecursion}
 
 -- The value at line i's start.
 abbrev pub value_at : {X : Type 0} → Kind X → List Line → List X → ℕ → X
@@ -21,7 +21,7 @@ Hearing kind lines inputs values v heard at =
     ((i : ℕ) → at ≡ Some i → i < length lines)
     × ((rest : List ℕ)
     × Links (next_after inputs) at rest
-    × All (λ i. i < length lines) rest
+    × AllByRecursion (λ i. i < length lines) rest
     × (collected_from kind.join heard (map (value_at kind lines values) rest)
     ≡ collected kind.join (map (value_at kind lines values) (lines_into (plan_of [] lines) v))))
 
@@ -37,7 +37,7 @@ left_falls next i rising l = go (get_or next i None) refl
     go None e = omega arith
     go (Some j) e = omega (arith, rising i j l e)
 
-first_inside : (next : ℕ → Option ℕ) (P : ℕ → Type 0) (at : Option ℕ) (is : List ℕ) → Links next at is → All P is
+first_inside : (next : ℕ → Option ℕ) (P : ℕ → Type 0) (at : Option ℕ) (is : List ℕ) → Links next at is → AllByRecursion P is
     → (i : ℕ) → at ≡ Some i → P i
 first_inside next P at is h all i e = (links_on next P i is (subst (λ a. Links next a is) e h) all).3
 

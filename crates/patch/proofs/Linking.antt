@@ -9,7 +9,7 @@ use Rattle.session.specs.declared.nodes.Line.{Line}
 use Rattle.std.proofs.ByRecursion.{All-weaker}
 use Rattle.std.proofs.lemmas.List.{get_or-replicate, get_or-set_other, get_or-set_same}
 use Rattle.std.proofs.lemmas.Bool.{cases_eq, cond_both, eqb-false, eqb-true}
-use Rattle.std.specs.List.{range_with_len, AllByRecursion as All}
+use Rattle.std.specs.List.{range_with_len, AllByRecursion}
 
 absurd_some : {A P : Type 0} (x : A) → Some x ≡ None → P
 absurd_some x e = let z : ◌≡◌ {A = ℕ} 0 1 = cc in absurd (omega arith)
@@ -18,8 +18,8 @@ same_some : (i j : ℕ) → Some i ≡ Some j → i ≡ j
 same_some i j e = cc
 
 -- Where a number stands, the linked numbers begin with it, and the others are linked from the next on.
-pub links_on : (next : ℕ → Option ℕ) (P : ℕ → Type 0) (i : ℕ) (is : List ℕ) → Links next (Some i) is → All P is
-    → (js : List ℕ) × (is ≡ i ∷ js) × Links next (next i) js × P i × All P js
+pub links_on : (next : ℕ → Option ℕ) (P : ℕ → Type 0) (i : ℕ) (is : List ℕ) → Links next (Some i) is → AllByRecursion P is
+    → (js : List ℕ) × (is ≡ i ∷ js) × Links next (next i) js × P i × AllByRecursion P js
 links_on next P i [] h all = absurd_some i h
 links_on next P i (j ∷ js) h all =
     let e = same_some i j h.0 in
@@ -33,7 +33,7 @@ abbrev pub at_number : List (Option ℕ) → ℕ → Option ℕ
 at_number next i = get_or next i None
 
 -- A number below all others may name another.
-links_other : (next : List (Option ℕ)) (i : ℕ) (x at : Option ℕ) (js : List ℕ) → All (λ j. i < j) js → Links (at_number next) at js → Links (at_number (set next i x)) at js
+links_other : (next : List (Option ℕ)) (i : ℕ) (x at : Option ℕ) (js : List ℕ) → AllByRecursion (λ j. i < j) js → Links (at_number next) at js → Links (at_number (set next i x)) at js
 links_other next i x at [] all h = h
 links_other next i x at (j ∷ js) all h = (
   h.0,
@@ -45,11 +45,11 @@ links_other next i x at (j ∷ js) all h = (
 abbrev pub last_lines : Plan → ℕ → ℕ → ℕ → List ℕ
 last_lines p v i m = filter (λ j. eqb (line p j).end v) (range_with_len i m)
 
-from_first : (test : ℕ → Bool) (a m : ℕ) → All (λ j. a ≤ j) (filter test (range_with_len a m))
+from_first : (test : ℕ → Bool) (a m : ℕ) → AllByRecursion (λ j. a ≤ j) (filter test (range_with_len a m))
 from_first test a zero = tt
 from_first test a (suc m) =
     let rest = All-weaker (λ j. a + 1 ≤ j) (λ j. a ≤ j) (λ j h. omega arith) (filter test (range_with_len (a + 1) m)) (from_first test (a + 1) m) in
-    cond_both (test a) (a ∷ filter test (range_with_len (a + 1) m)) (filter test (range_with_len (a + 1) m)) (All (λ j. a ≤ j))
+    cond_both (test a) (a ∷ filter test (range_with_len (a + 1) m)) (filter test (range_with_len (a + 1) m)) (AllByRecursion (λ j. a ≤ j))
     (λ _. (omega arith, rest)) (λ _. rest)
 
 -- All lines from line i on are linked.
@@ -70,7 +70,7 @@ module _ (lines : List Line) (fit : Fit lines) (first next : List (Option ℕ)) 
       let one : length lines - i ≡ suc (length lines - (i + 1)) = omega arith in
       ap (last_lines (plan_of [] lines) v i) one
 
-  above : (v : ℕ) → All (λ j. i < j) (last_lines (plan_of [] lines) v (i + 1) (length lines - (i + 1)))
+  above : (v : ℕ) → AllByRecursion (λ j. i < j) (last_lines (plan_of [] lines) v (i + 1) (length lines - (i + 1)))
   above v =
       All-weaker (λ j. i + 1 ≤ j) (λ j. i < j) (λ j h. omega arith) (last_lines (plan_of [] lines) v (i + 1) (length lines - (i + 1)))
       (from_first (λ j. eqb (line (plan_of [] lines) j).end v) (i + 1) (length lines - (i + 1)))

@@ -5,7 +5,7 @@ ghost use Rattle.session.specs.Plan.{lines_into};
 use session::nodes::{Line, Node};
 
 pub mod empty;
-pub mod frames;
+pub mod works;
 
 // A session's nodes and lines with their order and delays, and the lines arranged by the node that they end at: those
 // into node v are `counts[v]` of `into`, from `firsts[v]` on.

@@ -3,11 +3,11 @@
 #![tactic(auto)]
 
 mod output;
-mod playing;
+mod rendering;
 mod stops;
 mod tracks;
 
-use crate::playing::mix;
+use crate::rendering::mix;
 use crate::stops::Stop;
 use crate::tracks::{TrackFiles, read_tracks};
 use anyhow::anyhow;

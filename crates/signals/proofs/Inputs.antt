@@ -15,7 +15,7 @@ use Rattle.signals.proofs.Lines.{EachInto, all_lines, map_same, none_of}
 use Rattle.signals.specs.Signals.{Signal, SilentBefore, brought, input, track_signal}
 use Rattle.std.proofs.ByRecursion.{All-map, All-weaker}
 use Rattle.std.proofs.lemmas.Int.{ints}
-use Rattle.std.specs.List.{AllByRecursion as All}
+use Rattle.std.specs.List.{AllByRecursion}
 
 -- The input of a run is the input of another, `later` frames later, if so are the frames of all lines in and a track's
 -- input comes no later.
@@ -37,7 +37,7 @@ track_alone p rules v track e =
     true≢false (sym (rules.ends_at_bus i b) ∙ ap is_bus (same ∙ e))))
 
 -- Silence adds nothing to either side of a bus.
-nothing_brought : (side : Frame → ℤ) → side silence ≡ pos 0 → (parts : List Part) → All (λ part. part.frame ≡ silence) parts
+nothing_brought : (side : Frame → ℤ) → side silence ≡ pos 0 → (parts : List Part) → AllByRecursion (λ part. part.frame ≡ silence) parts
     → total (λ part. scaled (side part.frame) part.gain) parts ≡ pos 0
 nothing_brought side none [] h = refl
 nothing_brought side none (part ∷ parts) h =
@@ -45,7 +45,7 @@ nothing_brought side none (part ∷ parts) h =
     (ap (λ f. scaled (side f) part.gain) h.0 ∙ ap (λ z. scaled z part.gain) none ∙ ap divided (zero-*ℤ part.gain))
     (nothing_brought side none parts h.1)
 
-bus_silent : (parts : List Part) → All (λ part. part.frame ≡ silence) parts → bus parts ≡ silence
+bus_silent : (parts : List Part) → AllByRecursion (λ part. part.frame ≡ silence) parts → bus parts ≡ silence
 bus_silent parts h =
     ap₂ (λ l r. record { left = clamped l; right = clamped r })
     (nothing_brought (λ f. f.left) refl parts h) (nothing_brought (λ f. f.right) refl parts h)
@@ -59,7 +59,7 @@ silent_lead x k lead s h n l = s n (omega (arith, ints))
 
 -- An input is silent as long as the starts of all lines in are.
 pub input_silent : (p : Plan) (reel : Tracks) (delay : ℕ → ℕ) (x : ℕ → Signal Frame) (v lead : ℕ)
-    → All (λ i. SilentUntil (x (line p i).start) lead) (lines_into p v)
+    → AllByRecursion (λ i. SilentUntil (x (line p i).start) lead) (lines_into p v)
     → (source : Source) → SilentUntil (input p reel delay x v source) lead
 input_silent p reel delay x v lead h (Track track) (pos n) l = absurd (omega (arith, ints))
 input_silent p reel delay x v lead h (Track track) (negsuc n) l = refl
@@ -70,8 +70,8 @@ input_silent p reel delay x v lead h Bus n l =
     (λ i s. s (n -ℤ pos (delay i)) (omega (arith, ints))) (lines_into p v) h))
 
 -- Of signals that each begin somewhere, none begins before some number.
-pub common_lead : (x : ℕ → Signal Frame) (xs : List ℕ) → All (λ i. (b : ℤ) × SilentBefore silence (x i) b) xs
-    → (lead : ℕ) × All (λ i. SilentUntil (x i) lead) xs
+pub common_lead : (x : ℕ → Signal Frame) (xs : List ℕ) → AllByRecursion (λ i. (b : ℤ) × SilentBefore silence (x i) b) xs
+    → (lead : ℕ) × AllByRecursion (λ i. SilentUntil (x i) lead) xs
 common_lead x [] h = (0, tt)
 common_lead x (i ∷ xs) h =
     let rest = common_lead x xs h.1 in

@@ -9,7 +9,7 @@ use Rattle.std.proofs.lemmas.Fmt.{decimal_nonempty, digits_decimal}
 use Rattle.std.proofs.lemmas.Bool.{and_from, and_parts, cases_Bool, cond_both, eq-eqb, eqb-true, le-leb, le-ltb, leb-true, lt-ltb, ltb-false, ltb-true, or_left, or_right}
 use Rattle.std.proofs.lemmas.Bool.Decides.{when_false, when_true}
 use Rattle.std.specs.Fmt.{signed_decimal}
-use Rattle.std.specs.List.{AllByRecursion as All}
+use Rattle.std.specs.List.{AllByRecursion}
 use Rattle.text.proofs.Linewise.{Good, Says, plain}
 use Rattle.text.proofs.Spelt.{name_sound, own, small}
 use Rattle.text.proofs.Turned.{KindRest, LayerRest, LinkRest, NodeRest, SessionRest, UnitOk, UnitRest, gains, source_spelt, unit_spelt}
@@ -193,7 +193,7 @@ all_plain : List ℕ → Bool
 all_plain [] = true
 all_plain (b ∷ bs) = plain b && all_plain bs
 
-plain_all : (w : List ℕ) → all_plain w ≡ true → All (λ b. plain b ≡ true) w
+plain_all : (w : List ℕ) → all_plain w ≡ true → AllByRecursion (λ b. plain b ≡ true) w
 unfolding all_plain
 plain_all [] e = tt
 plain_all (b ∷ bs) e = let p = and_parts (plain b) (all_plain bs) e in (p.0, plain_all bs p.1)
@@ -201,7 +201,7 @@ plain_all (b ∷ bs) e = let p = and_parts (plain b) (all_plain bs) e in (p.0, p
 good_key : (w : List ℕ) → (ltb 0 (length w) && all_plain w) ≡ true → Good w
 good_key w e = let p = and_parts (ltb 0 (length w)) (all_plain w) e in (ltb-true 0 (length w) p.0, plain_all w p.1)
 
-plain_digits : (ds : List ℕ) → all_digits ds ≡ true → All (λ b. plain b ≡ true) ds
+plain_digits : (ds : List ℕ) → all_digits ds ≡ true → AllByRecursion (λ b. plain b ≡ true) ds
 unfolding all_digits
 plain_digits [] e = tt
 plain_digits (d ∷ ds) e = let p = and_parts (is_digit d) (all_digits ds) e in (or_right (is_letter d) _ (or_left (is_digit d) _ p.0), plain_digits ds p.1)
@@ -213,47 +213,47 @@ pub good_signed : (z : ℤ) → IsGain z → Good (signed_decimal z)
 good_signed (pos n) h = good_decimal n (omega arith)
 good_signed (negsuc n) h = let few : suc n < 10 ^ 6 = omega arith in (omega arith, (refl, (good_decimal (suc n) few).1))
 
-good_gains : (gs : List ℤ) → All IsGain gs → All Good (map signed_decimal gs)
+good_gains : (gs : List ℤ) → AllByRecursion IsGain gs → AllByRecursion Good (map signed_decimal gs)
 good_gains [] h = tt
 good_gains (g ∷ gs) h = (good_signed g h.0, good_gains gs h.1)
 
-good_sort : (k : Sort) → SortRanges k → All Good (sort_words k)
+good_sort : (k : Sort) → SortRanges k → AllByRecursion Good (sort_words k)
 unfolding all_plain
 good_sort (a_fir gs) h = let few = h.0 in (good_key (codes "fir") refl, (good_decimal (length gs) (omega arith), good_gains gs h.2))
 good_sort (a_limit a b) h = let x = h.0 in let y = h.2 in (good_key (codes "limit") refl, (good_decimal a (omega arith), (good_decimal b (omega arith), tt)))
 good_sort (a_pan a) h = (good_key (codes "pan") refl, (good_decimal a (omega arith), tt))
 good_sort (a_delay a) h = (good_key (codes "delay") refl, (good_decimal a (omega arith), tt))
 
-pub good_setup : (c : Contents) (x : Setup) → SetupFits c x → All Good (setup_words x)
+pub good_setup : (c : Contents) (x : Setup) → SetupFits c x → AllByRecursion Good (setup_words x)
 unfolding all_plain
 good_setup c (sets s k) h = let m = unit_most c s k (and_parts (fits_unit s (made k)) (not (is_set c s)) h.0).0 in (good_key (codes "unit") refl, (good_decimal s (omega arith), good_sort k h.1))
 good_setup c (trims s g) h = let m = h.0 in (good_key (codes "layer") refl, (good_decimal s (omega arith), (good_key (codes "trim") refl, (good_signed g h.2, tt))))
 good_setup c (bypasses s) h = let m = h.0 in (good_key (codes "layer") refl, (good_decimal s (omega arith), (good_key (codes "bypass") refl, tt)))
 
-good_unit : (u : Option ℕ) → UnitRange u → All Good (unit_words u)
+good_unit : (u : Option ℕ) → UnitRange u → AllByRecursion Good (unit_words u)
 unfolding all_plain
 good_unit None h = tt
 good_unit (Some s) h = (good_key (codes "unit") refl, (good_decimal s (omega arith), tt))
 
-good_rest : (s : Source) (u : Option ℕ) → SourceRange s → UnitRange u → All Good (source_words s ++ unit_words u)
+good_rest : (s : Source) (u : Option ℕ) → SourceRange s → UnitRange u → AllByRecursion Good (source_words s ++ unit_words u)
 unfolding all_plain
 good_rest (Track q) u h r = (good_key (codes "track") refl, (good_decimal q (omega arith), good_unit u r))
 good_rest Bus u h r = (good_key (codes "bus") refl, good_unit u r)
 
-pub good_node : (c : Contents) (n : nodes.Node) → NodeFits c n → All Good (node_words (length c.nodes) n)
+pub good_node : (c : Contents) (n : nodes.Node) → NodeFits c n → AllByRecursion Good (node_words (length c.nodes) n)
 unfolding all_plain
 good_node c n h =
     let few = ltb-true (length c.nodes) 16 (and_parts (ltb (length c.nodes) 16) (free c n.unit) h.0).0 in
     (good_key (codes "node") refl, (good_decimal (length c.nodes) (omega arith), good_rest n.source n.unit h.1 h.2))
 
-pub good_link : (c : Contents) (l : links.Line) → LinkFits c l → All Good (link_words l)
+pub good_link : (c : Contents) (l : links.Line) → LinkFits c l → AllByRecursion Good (link_words l)
 unfolding all_plain
 good_link c l h = let a = h.1 in let b = h.2 in (good_key (codes "line") refl, (good_decimal l.start (omega arith), (good_decimal l.end (omega arith), (good_signed l.gain h.3, tt))))
 
-pub good_end : All Good end_words
+pub good_end : AllByRecursion Good end_words
 unfolding all_plain
 good_end = (good_key (codes "end") refl, tt)
 
-pub good_session : (r : ℕ) → r ≤ 192000 → All Good (session_words r)
+pub good_session : (r : ℕ) → r ≤ 192000 → AllByRecursion Good (session_words r)
 unfolding all_plain
 good_session r h = (good_key (codes "session") refl, (good_key (codes "1") refl, (good_decimal r (omega arith), tt)))

@@ -2,7 +2,7 @@
 use Rattle.std.proofs.Common.{◌≡◌, ℕ, Bool, true, false, cond, eqb, List, [], ◌∷◌, ◌++◌, map, sym, refl, ap, ◌∙◌, ap₂, append_assoc, arith}
 use Rattle.std.proofs.lemmas.Bool.{cond-false, cond-true, eq-eqb, eqb-true}
 use Rattle.std.proofs.lemmas.List.{append-nil}
-use Rattle.std.specs.List.{flat_map, AllByRecursion as All}
+use Rattle.std.specs.List.{flat_map, AllByRecursion}
 use Rattle.text.proofs.Grammar.{nil_not}
 use Rattle.text.specs.Scripts.{line_bytes, spaced, spelt_line}
 use Rattle.words.specs.Pieces.{lengthen, split}
@@ -19,7 +19,7 @@ join m (p ∷ ps) = p ++ marked m ps
 
 -- no mark
 abbrev pub Free : ℕ → List ℕ → Type 0
-Free m = All (λ b. eqb b m ≡ false)
+Free m = AllByRecursion (λ b. eqb b m ≡ false)
 
 pub spaced_marked : (ws : List (List ℕ)) → spaced ws ≡ marked 32 ws
 unfolding spaced marked
@@ -83,7 +83,7 @@ split_front m (b ∷ p) rest f = cond-false (eqb b m) _ _ f.0 ∙ ap (lengthen b
     longer [] = refl
     longer (q ∷ qs) = refl
 
-pub split_join : (m : ℕ) (ps : List (List ℕ)) (p : List ℕ) → Free m p → All (Free m) ps → split m (p ++ marked m ps) ≡ p ∷ ps
+pub split_join : (m : ℕ) (ps : List (List ℕ)) (p : List ℕ) → Free m p → AllByRecursion (Free m) ps → split m (p ++ marked m ps) ≡ p ∷ ps
 unfolding split marked
 split_join m [] p f fs = split_front m p [] f ∙ ap (λ l. l ∷ []) (append-nil p)
 split_join m (q ∷ qs) p f fs =

@@ -3,7 +3,7 @@ use Rattle.std.proofs.Common.{◌≡◌, ℕ, suc, ◌+◌, ◌<◌, Bool, true,
 use Rattle.session.specs.Contents.{Contents}
 use Rattle.std.proofs.ByRecursion.{All-append, All-weaker}
 use Rattle.std.proofs.lemmas.Bool.{cond_both, cond-false, cond-true, eqb-true, le-ltb, leb-true, and_parts, ne_eqb, or_cases, or_left, or_parts, or_right}
-use Rattle.std.specs.List.{AllByRecursion as All}
+use Rattle.std.specs.List.{AllByRecursion}
 use Rattle.text.proofs.Grammar.{Head, not_ok, words_in}
 use Rattle.text.proofs.Joining.{Free, line_join, marked, split_join}
 use Rattle.text.proofs.Wholes.{TurnWords, ends_whole}
@@ -45,7 +45,7 @@ abbrev pub plain : ℕ → Bool
 plain b = is_letter b || (is_digit b || eqb b 45)
 
 abbrev pub Good : List ℕ → Type 0
-Good w = (0 < length w) × All (λ b. plain b ≡ true) w
+Good w = (0 < length w) × AllByRecursion (λ b. plain b ≡ true) w
 
 plain_known : (b : ℕ) → plain b ≡ true → is_known b ≡ true
 plain_known b h =
@@ -65,18 +65,18 @@ known_apart b h = ne_eqb b 10 (λ e. ⊎_elim (λ p. let q = leb-true 97 b (and_
     (or_cases (is_letter b) (is_digit b || (eqb b 45 || eqb b 32)) h))
 
 abbrev pub Known : List ℕ → Type 0
-Known = All (λ b. is_known b ≡ true)
+Known = AllByRecursion (λ b. is_known b ≡ true)
 
-known_marked : (ws : List (List ℕ)) → All Good ws → Known (marked 32 ws)
+known_marked : (ws : List (List ℕ)) → AllByRecursion Good ws → Known (marked 32 ws)
 unfolding marked
 known_marked [] g = tt
 known_marked (w ∷ ws) g = (refl, All-append _ w (marked 32 ws) (All-weaker _ _ plain_known w g.0.1) (known_marked ws g.1))
 
-pub known_line : (ws : List (List ℕ)) → All Good ws → Known (line_bytes ws)
+pub known_line : (ws : List (List ℕ)) → AllByRecursion Good ws → Known (line_bytes ws)
 known_line [] g = tt
 known_line (w ∷ ws) g = subst Known (sym (line_join (w ∷ ws))) (All-append _ w (marked 32 ws) (All-weaker _ _ plain_known w g.0.1) (known_marked ws g.1))
 
-pub free_line : (ws : List (List ℕ)) → All Good ws → Free 10 (line_bytes ws)
+pub free_line : (ws : List (List ℕ)) → AllByRecursion Good ws → Free 10 (line_bytes ws)
 free_line ws g = All-weaker _ _ known_apart (line_bytes ws) (known_line ws g)
 
 known_all : (l : List ℕ) → Known l → known_run l ≡ length l
@@ -84,13 +84,13 @@ unfolding known_run
 known_all [] k = refl
 known_all (b ∷ l) k = cond-true (is_known b) _ _ k.0 ∙ ap suc (known_all l k.1)
 
-free_words : (ws : List (List ℕ)) → All Good ws → All (Free 32) ws
+free_words : (ws : List (List ℕ)) → AllByRecursion Good ws → AllByRecursion (Free 32) ws
 free_words ws g = All-weaker _ _ (λ w h. All-weaker _ _ (λ b p. plain_apart 32 b (omega arith) p) w h.1) ws g
 
-pub split_line : (w : List ℕ) (ws : List (List ℕ)) → All Good (w ∷ ws) → split 32 (line_bytes (w ∷ ws)) ≡ w ∷ ws
+pub split_line : (w : List ℕ) (ws : List (List ℕ)) → AllByRecursion Good (w ∷ ws) → split 32 (line_bytes (w ∷ ws)) ≡ w ∷ ws
 split_line w ws g = ap (split 32) (line_join (w ∷ ws)) ∙ split_join 32 ws w (free_words (w ∷ ws) g).0 (free_words (w ∷ ws) g).1
 
-spaces_ok : (ws : List (List ℕ)) (row c : ℕ) → All Good ws → spaces_check row c ws ≡ Ok tt
+spaces_ok : (ws : List (List ℕ)) (row c : ℕ) → AllByRecursion Good ws → spaces_check row c ws ≡ Ok tt
 unfolding spaces_check
 spaces_ok [] row c g = refl
 spaces_ok (w ∷ ws) row c g = cond-false (eqb (length w) 0) _ _ (let l = g.0.0 in ne_eqb (length w) 0 (λ e. omega arith)) ∙ spaces_ok ws row (c + length w + 1) g.1
@@ -102,7 +102,7 @@ abbrev pub Says : Stage → Contents → List (List ℕ) → Turned → Type 0
 Says st c ws t = Head (TurnWords st c) t (map spelling ws)
 
 -- a line of good words that say something is read
-pub line_complete : (row : ℕ) (st : Stage) (c : Contents) (w : List ℕ) (ws : List (List ℕ)) (t : Turned) → All Good (w ∷ ws) → Says st c (w ∷ ws) t → line_read row st c (line_bytes (w ∷ ws)) false ≡ Ok t
+pub line_complete : (row : ℕ) (st : Stage) (c : Contents) (w : List ℕ) (ws : List (List ℕ)) (t : Turned) → AllByRecursion Good (w ∷ ws) → Says st c (w ∷ ws) t → line_read row st c (line_bytes (w ∷ ws)) false ≡ Ok t
 line_complete row st c w ws t g s =
     let l = line_bytes (w ∷ ws) in
     let parts : split 32 l ≡ w ∷ ws = split_line w ws g in

@@ -6,7 +6,7 @@ use Rattle.session.specs.declared.nodes.Node as nodes
 use Rattle.std.proofs.ByRecursion.{All-append}
 use Rattle.std.proofs.lemmas.List.{length_push}
 use Rattle.std.proofs.lemmas.Bool.{cond-true, false≢true, le-leb, leb-true}
-use Rattle.std.specs.List.{AllByRecursion as All}
+use Rattle.std.specs.List.{AllByRecursion}
 use Rattle.text.proofs.Commands.{FirstIs, end_complete, first_is, good_end, good_link, good_node, good_session, good_setup, layer_sound, link_complete, link_sound, node_complete, node_sound, session_complete, session_sound, setup_complete, unit_sound}
 use Rattle.text.proofs.Grammar.{none_is, not_ok, some_is}
 use Rattle.text.proofs.Joining.{Free, join, join_split, line_join, lines_join, split_join}
@@ -178,7 +178,7 @@ more_follows [] y = refl
 more_follows (x ∷ xs) y = refl
 
 module _ (row : ℕ) (st : Stage) (c : Contents) (w : List ℕ) (ws : List (List ℕ)) (ls : List (List (List ℕ))) where
-  go_on : (next : Stage) (d : Contents) → All Good (w ∷ ws) → Says st c (w ∷ ws) (record { stage = next; held = d; ended = false }) → lines_read row st c (pieces_of ((w ∷ ws) ∷ ls)) ≡ lines_read (row + 1) next d (pieces_of ls)
+  go_on : (next : Stage) (d : Contents) → AllByRecursion Good (w ∷ ws) → Says st c (w ∷ ws) (record { stage = next; held = d; ended = false }) → lines_read row st c (pieces_of ((w ∷ ws) ∷ ls)) ≡ lines_read (row + 1) next d (pieces_of ls)
   go_on next d g s =
       lines_more row st c (line_bytes (w ∷ ws)) (pieces_of ls) (record { stage = next; held = d; ended = false })
       (ap (line_read row st c (line_bytes (w ∷ ws))) (more_follows (map line_bytes ls) []) ∙ line_complete row st c w ws _ g s) refl
@@ -235,21 +235,21 @@ lines_complete s f =
     ∙ units_complete s.setups s.nodes s.lines 2 (with_rate no_contents s.rate) f.some_node f.setups_fit f.nodes_fit f.lines_fit
 
 -- no line of a script has 0A inside
-free_tail : (xs : List links.Line) (c : Contents) → AllFit LinkFits with_line c xs → All (Free 10) (map line_bytes (tail_words xs))
+free_tail : (xs : List links.Line) (c : Contents) → AllFit LinkFits with_line c xs → AllByRecursion (Free 10) (map line_bytes (tail_words xs))
 free_tail [] c f = (free_line end_words good_end, tt)
 free_tail (x ∷ xs) c f = (free_line (link_words x) (good_link c x f.0), free_tail xs (with_line c x) f.1)
 
-free_nodes : (ns : List nodes.Node) (xs : List links.Line) (c : Contents) → AllFit NodeFits with_node c ns → AllFit LinkFits with_line (after_all with_node c ns) xs → All (Free 10) (map line_bytes (nodes_words (length c.nodes) ns ++ tail_words xs))
+free_nodes : (ns : List nodes.Node) (xs : List links.Line) (c : Contents) → AllFit NodeFits with_node c ns → AllFit LinkFits with_line (after_all with_node c ns) xs → AllByRecursion (Free 10) (map line_bytes (nodes_words (length c.nodes) ns ++ tail_words xs))
 unfolding nodes_words
 free_nodes [] xs c f g = free_tail xs c g
 free_nodes (n ∷ ns) xs c f g =
-    (free_line (node_words (length c.nodes) n) (good_node c n f.0), subst (λ k. All (Free 10) (map line_bytes (nodes_words k ns ++ tail_words xs))) (length_push c.nodes n) (free_nodes ns xs (with_node c n) f.1 g))
+    (free_line (node_words (length c.nodes) n) (good_node c n f.0), subst (λ k. AllByRecursion (Free 10) (map line_bytes (nodes_words k ns ++ tail_words xs))) (length_push c.nodes n) (free_nodes ns xs (with_node c n) f.1 g))
 
 free_units : (ss : List Setup) (ns : List nodes.Node) (xs : List links.Line) (c : Contents) → AllFit SetupFits after_setup c ss → AllFit NodeFits with_node (after_all after_setup c ss) ns
-    → AllFit LinkFits with_line (after_all with_node (after_all after_setup c ss) ns) xs → All (Free 10) (map line_bytes (map setup_words ss ++ (nodes_words (length c.nodes) ns ++ tail_words xs)))
+    → AllFit LinkFits with_line (after_all with_node (after_all after_setup c ss) ns) xs → AllByRecursion (Free 10) (map line_bytes (map setup_words ss ++ (nodes_words (length c.nodes) ns ++ tail_words xs)))
 free_units [] ns xs c f g k = free_nodes ns xs c g k
 free_units (x ∷ ss) ns xs c f g k =
-    (free_line (setup_words x) (good_setup c x f.0), subst (λ ms. All (Free 10) (map line_bytes (map setup_words ss ++ (nodes_words (length ms) ns ++ tail_words xs)))) (same_nodes c x) (free_units ss ns xs (after_setup c x) f.1 g k))
+    (free_line (setup_words x) (good_setup c x f.0), subst (λ ms. AllByRecursion (Free 10) (map line_bytes (map setup_words ss ++ (nodes_words (length ms) ns ++ tail_words xs)))) (same_nodes c x) (free_units ss ns xs (after_setup c x) f.1 g k))
 
 split_script : (s : Script) → WellFormed s → split 10 (spelt s) ≡ pieces_of (script_words s)
 split_script s f =

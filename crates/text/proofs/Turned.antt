@@ -12,7 +12,7 @@ use Rattle.session.specs.declared.nodes.Line.{Line}
 use Rattle.session.specs.declared.nodes.Node.{Node}
 use Rattle.session.specs.declared.nodes.Source.{Source}
 use Rattle.session.specs.declared.nodes.Source.TheVariants.{Track, Bus}
-use Rattle.std.specs.List.{AllByRecursion as All}
+use Rattle.std.specs.List.{AllByRecursion}
 use Rattle.text.proofs.Grammar.{Done, Ends, Head, ends_ask, ends_assoc, ends_cond, ends_cond_bind, ends_done, ends_map, ends_none, ends_to, ends_word, nil_not, ok_is, words_in}
 use Rattle.text.proofs.Spelt.{name_sound, one_sound}
 use Rattle.text.proofs.Steps.{AGain, ANumber, ANumbered, ends_count, ends_gain, ends_keyword, ends_numbered, ends_ranged}
@@ -40,14 +40,14 @@ gains = map (λ g. spelling (signed_decimal g))
 
 module _ {Y : Type 0} (f : List ℤ → Parse Y) (M : List ℤ → Y → List Spelling → Type 0) (each : (t : List ℤ) → Ends (f t) (M t)) where
   abbrev pub SomeTaps : ℕ → ℕ → List ℤ → Y → List Spelling → Type 0
-  SomeTaps i n arr y ws = (gs : List ℤ) × (vs : List Spelling) × (length gs ≡ n) × All IsGain gs × (ws ≡ gains gs ++ vs) × M (put_from i gs arr) y vs
+  SomeTaps i n arr y ws = (gs : List ℤ) × (vs : List Spelling) × (length gs ≡ n) × AllByRecursion IsGain gs × (ws ≡ gains gs ++ vs) × M (put_from i gs arr) y vs
 
   no_taps : (i : ℕ) (arr : List ℤ) (y : Y) (ws : List Spelling) (gs : List ℤ) (vs : List Spelling) → length gs ≡ 0 → ws ≡ gains gs ++ vs → M (put_from i gs arr) y vs → M arr y ws
   unfolding put_from
   no_taps i arr y ws [] vs l e m = subst (M arr y) (sym e) m
   no_taps i arr y ws (g ∷ gs) vs l e m = absurd (omega arith)
 
-  one_tap : (i n : ℕ) (arr : List ℤ) (y : Y) (ws : List Spelling) (gs : List ℤ) (vs : List Spelling) → length gs ≡ suc n → All IsGain gs → ws ≡ gains gs ++ vs → M (put_from i gs arr) y vs
+  one_tap : (i n : ℕ) (arr : List ℤ) (y : Y) (ws : List Spelling) (gs : List ℤ) (vs : List Spelling) → length gs ≡ suc n → AllByRecursion IsGain gs → ws ≡ gains gs ++ vs → M (put_from i gs arr) y vs
       → (g : ℤ) × (us : List Spelling) × (ws ≡ spelling (signed_decimal g) ∷ us) × IsGain g × SomeTaps (i + 1) n (set arr i g) y us
   unfolding put_from
   one_tap i n arr y ws [] vs l a e m = absurd (omega arith)
@@ -68,7 +68,7 @@ no_taps_yet = replicate 31 (pos 0)
 
 -- `fir T H..`, `limit A C`, `pan P`, `delay K`
 abbrev pub FirRest : Effect → List Spelling → Type 0
-FirRest e ws = (gs : List ℤ) × (e ≡ fir (put_from 0 gs no_taps_yet) (length gs)) × (length gs ≤ 31) × (length gs % 2 ≡ 1) × All IsGain gs × (ws ≡ name (codes "fir") ∷ spelling (decimal (length gs)) ∷ gains gs)
+FirRest e ws = (gs : List ℤ) × (e ≡ fir (put_from 0 gs no_taps_yet) (length gs)) × (length gs ≤ 31) × (length gs % 2 ≡ 1) × AllByRecursion IsGain gs × (ws ≡ name (codes "fir") ∷ spelling (decimal (length gs)) ∷ gains gs)
 
 abbrev pub LimitRest : Effect → List Spelling → Type 0
 LimitRest e ws = (a : ℕ) × (b : ℕ) × (e ≡ limit a b) × (a ≤ 63) × (1 ≤ b) × (b ≤ 32767) × (ws ≡ name (codes "limit") ∷ spelling (decimal a) ∷ spelling (decimal b) ∷ [])

@@ -6,7 +6,7 @@ use Rattle.session.specs.declared.nodes.Line.{Line}
 use Rattle.session.specs.declared.nodes.Node.{Node}
 use Rattle.session.specs.declared.nodes.Source.{Source}
 use Rattle.session.specs.declared.nodes.Source.TheVariants.{Track, Bus}
-use Rattle.std.specs.List.{flat_map, AllByRecursion as All}
+use Rattle.std.specs.List.{flat_map, AllByRecursion}
 use Rattle.std.specs.Fmt.{signed_decimal}
 
 -- A unit's kind, as a unit line has it.
@@ -101,7 +101,7 @@ made (a_pan position) = pan position
 made (a_delay frames) = delay frames
 
 abbrev pub SortRanges : Sort → Type 0
-SortRanges (a_fir taps) = (length taps ≤ 31) × (length taps % 2 ≡ 1) × All IsGain taps
+SortRanges (a_fir taps) = (length taps ≤ 31) × (length taps % 2 ≡ 1) × AllByRecursion IsGain taps
 SortRanges (a_limit lookahead ceiling) = (lookahead ≤ 63) × (1 ≤ ceiling) × (ceiling ≤ 32767)
 SortRanges (a_pan position) = position ≤ 256
 SortRanges (a_delay frames) = frames ≤ 63

@@ -1,5 +1,5 @@
 use Rattle.std.proofs.Common.{◌≡◌, ◌-◌, length}
-use Rattle.sessionmix.proofs.playing.play_all.Given as goal
+use Rattle.sessionmix.proofs.rendering.play_all.Given as goal
 
 abbrev pub invariant-loop-at : goal.invariant-loop-at
 invariant-loop-at g l = length l.out ≡ l.total
