@@ -14,6 +14,7 @@ mod tests {
     use reels::clicks::Clicks;
     use session::sessions::Session;
     use std::alloc::{AllocError, Global};
+    use std::process::Abort;
     use std::test::*;
     use text::reader::read;
     use units::delay::Delay;
@@ -386,81 +387,90 @@ mod tests {
         }
 
         // It was refused: it has left its tape and its buffer as they were.
-        fn compare(&self) -> Result<(), Fail> {
+        fn compare(&self, rt: &impl Abort) -> Result<(), Fail> {
             let tape = resized(&self.tape, self.copy.len())?;
-            assert!(marked(&self.out) && self.copy == tape);
+            assert!(rt; marked(&self.out) && self.copy == tape);
             Ok(())
         }
 
-        fn make<R: Rack>(&mut self, rack: &mut R, call: Call) -> Result<(), Fail> {
+        fn make<R: Rack>(&mut self, rt: &impl Abort, rack: &mut R, call: Call) -> Result<(), Fail> {
             let (ask, tape, number, place) = match call {
                 Call::Done(ask) => (ask, TAPE, 0, 0),
                 Call::Answered(ask, answer) => (ask, TAPE, 0, answer),
                 Call::Refused(ask, tape, number, place) => (ask, tape, number, place),
             };
             self.prepare(ask, tape)?;
-            assert_eq!(self.ask(rack, ask), (number, place));
+            assert_eq!(rt; self.ask(rack, ask), (number, place));
             if number != 0 {
-                return self.compare();
+                return self.compare(rt);
             }
             Ok(self.keep(ask)?)
         }
 
-        fn tell<R: Rack + Drop>(&mut self, mut rack: R, story: Story) -> Result<(), Fail> {
+        fn tell<R: Rack + Drop>(
+            &mut self,
+            rt: &impl Abort,
+            mut rack: R,
+            story: Story,
+        ) -> Result<(), Fail> {
             for call in story.calls {
-                self.make(&mut rack, *call)?;
+                self.make(rt, &mut rack, *call)?;
             }
             let wanted = clicks(self.heap, story.frames, story.clicks)?;
-            assert!(self.heard == wanted);
+            assert!(rt; self.heard == wanted);
             Ok(())
         }
 
         // The same with the rack of the story's session.
-        fn tell_of_session(&mut self, story: Story) -> Result<(), Fail> {
+        fn tell_of_session(&mut self, rt: &impl Abort, story: Story) -> Result<(), Fail> {
             self.read(story.rack);
             let rack = session_rack(&self.session);
-            self.tell(rack, story)
+            self.tell(rt, rack, story)
         }
     }
 
     // Stories one after the other, with one console.
-    fn tell(heap: Global, stories: &[Story]) -> Result<(), Fail> {
+    fn tell(rt: &impl Abort, heap: Global, stories: &[Story]) -> Result<(), Fail> {
         let mut trial = Trial::new(heap)?;
         for story in stories {
-            trial.tell_of_session(*story)?;
+            trial.tell_of_session(rt, *story)?;
         }
         Ok(())
     }
 
     #[test]
     fn late_and_early_paths_meet(rt: HostRuntime) -> Result<(), Fail> {
-        tell(rt.alloc(), &[TWO_PATHS, DRUMS])
+        tell(&rt, rt.alloc(), &[TWO_PATHS, DRUMS])
     }
 
     #[test]
     fn a_mix_in_pieces(rt: HostRuntime) -> Result<(), Fail> {
-        tell(rt.alloc(), &[WHOLE, IN_PIECES, EACH_SIZE])
+        tell(&rt, rt.alloc(), &[WHOLE, IN_PIECES, EACH_SIZE])
     }
 
     #[test]
     fn refused_calls_change_nothing(rt: HostRuntime) -> Result<(), Fail> {
-        tell(rt.alloc(), &[NOT_STARTED, REFUSED_PLAYS, REFUSED_STARTS])
+        tell(
+            &rt,
+            rt.alloc(),
+            &[NOT_STARTED, REFUSED_PLAYS, REFUSED_STARTS],
+        )
     }
 
     #[test]
     fn from_the_beginning_again(rt: HostRuntime) -> Result<(), Fail> {
-        tell(rt.alloc(), &[REWOUND, WHOLE, TWO_PATHS])
+        tell(&rt, rt.alloc(), &[REWOUND, WHOLE, TWO_PATHS])
     }
 
     #[test]
     fn the_end_of_the_position(rt: HostRuntime) -> Result<(), Fail> {
-        tell(rt.alloc(), &[TO_THE_END])
+        tell(&rt, rt.alloc(), &[TO_THE_END])
     }
 
     #[test]
     fn a_rack_that_lacks_units(rt: HostRuntime) -> Result<(), Fail> {
         let unit = Delay::new(DelaySettings { frames: 3 });
         let mut trial = Trial::new(rt.alloc())?;
-        trial.tell(Single { unit }, LACKING)
+        trial.tell(&rt, Single { unit }, LACKING)
     }
 }
