@@ -4,7 +4,7 @@
 usage: tools/respell.py        at the top of the repository, once, right after the kit's port.py
 
 A word that a file of specs/ or proofs/ declares with a dash in it gets underscores, `held-more` as `held_more`; a fact or a
-type gets camel case, `Adds-up` as `AddsUp`. Names that the toolchain makes, such as a goal's, keep their dashes, and so do
+type, also one that port.py gave an underscore, gets camel case, `Adds-up` as `AddsUp`. Names that the toolchain makes, such as a goal's, keep their dashes, and so do
 the library's. Functions, strings and comments stay. Where two names of one file would fall together, it says so.
 """
 
@@ -33,13 +33,17 @@ def text_of(path):
 
 def respelt(name):
     if name[0].isupper():
-        first, *rest = name.split("-")
+        first, *rest = re.split("[-_]", name)
         return first + "".join(part[:1].upper() + part[1:] for part in rest)
     return name.replace("-", "_")
 
 
+def is_old(name):
+    return "-" in name or (name[0].isupper() and "_" in name)
+
+
 def own_names():
-    """The words with a dash that specs/ and proofs/ declare, and those among them that are fields or constructors."""
+    """The words of an older spelling that specs/ and proofs/ declare, and those among them that are fields or constructors."""
     names, fields = set(), set()
     for path in files(".antt"):
         inside = False
@@ -48,7 +52,7 @@ def own_names():
             if found and not line.startswith(("--", "use ", "mod ", "pub mod ")):
                 inside = bool(found.group(2))
                 name = found.group(3)
-                if "-" in name and not re.search(r": *goal\." + re.escape(name) + r"\b", line):
+                if is_old(name) and not re.search(r": *goal\." + re.escape(name) + r"\b", line):
                     names.add(name)
                 continue
             found = FIELD.match(line)

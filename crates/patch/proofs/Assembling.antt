@@ -13,7 +13,7 @@ use Rattle.patch.specs.Inputs.{Arranges}
 use Rattle.patch.specs.Ours.{OurPatch}
 use Rattle.patch.specs.Patches.{delay_of, feeders_of, late_of, ordered_nodes}
 use Rattle.patch.specs.Placing.{Placed, lowest_unplaced, order_of, place_in, plan_of, stands}
-use Rattle.patch.specs.Sweeps.{Along, Fit, Kind, Swept, Swept_to, by_node, swept}
+use Rattle.patch.specs.Sweeps.{Along, Fit, Kind, Swept, SweptTo, by_node, swept}
 use Rattle.patch.specs.declared.patches.Patch.{Patch}
 use Rattle.racks.specs.Rack.{RackLaws}
 use Rattle.session.specs.Plan.{KeepsRules, Plan, line, node}
@@ -50,7 +50,7 @@ whole_order p placed = omega (arith, (sound p).counted, all_standing (order_of p
 
 -- A sweep along the whole order is a sweep of the plan.
 sweep_of_plan : {X : Type 0} (kind : Kind X) (p : Plan) → KeepsRules p → Placed p → (order : List ℕ) → order ≡ order_of p → (values : List X)
-    → Swept_to kind p.lines order (length order) (by_node kind values) → Swept kind p (by_node kind (take (length order) values))
+    → SweptTo kind p.lines order (length order) (by_node kind values) → Swept kind p (by_node kind (take (length order) values))
 sweep_of_plan kind p rules placed order is values along v l =
     let standing : stands order v ≡ true = ap (λ xs. stands xs v) is ∙ placed v l in
     let here = along (place_in order v) (place_inside order v standing) in
@@ -65,8 +65,8 @@ module _ (p : Plan) (rack : List (Meaning Frame)) (r : Patch) (units : List ℕ)
     (clear : due p rack ≡ None) (in_order : ordered_nodes r ≡ order_of p) (lines_are : r.lines ≡ length p.lines)
     (arranged : Arranges p.lines r.inputs)
     (each : (v : ℕ) → v < length p.nodes → get_or units v 0 ≡ unit_late rack (node p v).unit)
-    (late-along : Swept_to (lateness_kind units) p.lines (ordered_nodes r) (length (ordered_nodes r)) (by_node (lateness_kind units) r.late))
-    (fed_along : Swept_to feeders_kind p.lines (ordered_nodes r) (length (ordered_nodes r)) (by_node feeders_kind r.fed))
+    (late-along : SweptTo (lateness_kind units) p.lines (ordered_nodes r) (length (ordered_nodes r)) (by_node (lateness_kind units) r.late))
+    (fed_along : SweptTo feeders_kind p.lines (ordered_nodes r) (length (ordered_nodes r)) (by_node feeders_kind r.fed))
     (held-are : (i : ℕ) → i < length p.lines
     → get_or r.held i 0 ≡ (get_or r.late (line p i).end 0 - get_or units (line p i).end 0) - get_or r.late (line p i).start 0) where
   placed : Placed p

@@ -2,7 +2,7 @@
 use Rattle.std.proofs.Common.{◌≡◌, ℕ, ◌+◌, ◌<◌, List, [], length, get_or, set, sym, ap, ◌∙◌, subst, inl, inr, arith}
 use Rattle.patch.proofs.Joining.{swept_same}
 use Rattle.patch.specs.Placing.{place_in, plan_of}
-use Rattle.patch.specs.Sweeps.{Along, Kind, OneSweep, Swept_to, by_node, swept}
+use Rattle.patch.specs.Sweeps.{Along, Kind, OneSweep, SweptTo, by_node, swept}
 use Rattle.session.specs.Plan.{line}
 use Rattle.session.specs.declared.nodes.Line.{Line}
 use Rattle.signals.proofs.Order.{from_starts}
@@ -23,8 +23,8 @@ module _ {X : Type 0} (kind : Kind X) (lines : List Line) (order : List ℕ) (al
       swept_same kind (plan_of [] lines) (by_node kind (set values (get_or order k 0) x)) (by_node kind values) (get_or order j 0)
       (λ i b e. kept (line (plan_of [] lines) i).start (omega (arith, along.after j i (omega arith) b e)))
 
-  pub sweeps_on : Swept_to kind lines order k (by_node kind values) → x ≡ swept kind (plan_of [] lines) (by_node kind values) (get_or order k 0)
-      → Swept_to kind lines order (k + 1) (by_node kind (set values (get_or order k 0) x))
+  pub sweeps_on : SweptTo kind lines order k (by_node kind values) → x ≡ swept kind (plan_of [] lines) (by_node kind values) (get_or order k 0)
+      → SweptTo kind lines order (k + 1) (by_node kind (set values (get_or order k 0) x))
   sweeps_on before here j l =
       elim (cases_eq k j) [
         | inl e ↦ subst (λ j. by_node kind (set values (get_or order k 0) x) (get_or order j 0)

@@ -53,8 +53,8 @@ pub record Along (lines : List Line) (order : List ℕ) : Type 0 where
       → place_in order (line (plan_of [] lines) i).start < k
 
 -- The first k nodes of an order have what they make of the values before them.
-abbrev pub Swept_to : {X : Type 0} → Kind X → List Line → List ℕ → ℕ → (ℕ → X) → Type 0
-Swept_to kind lines order k value = (j : ℕ) → j < k → value (slice_index order j) ≡ swept kind (plan_of [] lines) value (slice_index order j)
+abbrev pub SweptTo : {X : Type 0} → Kind X → List Line → List ℕ → ℕ → (ℕ → X) → Type 0
+SweptTo kind lines order k value = (j : ℕ) → j < k → value (slice_index order j) ≡ swept kind (plan_of [] lines) value (slice_index order j)
 
 -- A plan whose nodes can all be placed has one sweep at most.
 abbrev pub OneSweep : Type 0 → Type 0

@@ -1,7 +1,7 @@
 ghost use Rattle.std.specs.Prelude.{◌≡◌, ℕ, ◌<◌, ◌≤◌, [], map, length};
 ghost use Rattle.patch.specs.Inputs.{Arranges};
 ghost use Rattle.patch.specs.Placing.{plan_of};
-ghost use Rattle.patch.specs.Sweeps.{Along, by_node, Fit, JoinLaws, joined, Kind, Swept_to};
+ghost use Rattle.patch.specs.Sweeps.{Along, by_node, Fit, JoinLaws, joined, Kind, SweptTo};
 ghost use Rattle.session.specs.Plan.{line, lines_into};
 
 use crate::inputs::Inputs;
@@ -66,7 +66,7 @@ pub(crate) fn sweep<F: Flow>(
     requires inputs { Arranges lines.now inputs.now }
     requires order { Along lines.now order.now }
     ensures length { length result ≡ 16 }
-    ensures swept { Swept_to (F.Flow.kind kind.now) lines.now order.now (length order.now) (by_node (F.Flow.kind kind.now) result) }
+    ensures swept { SweptTo (F.Flow.kind kind.now) lines.now order.now (length order.now) (by_node (F.Flow.kind kind.now) result) }
 {
     let mut values = [kind.start(); 16];
     for v in order {

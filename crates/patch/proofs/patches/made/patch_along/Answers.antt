@@ -3,7 +3,7 @@ use Rattle.patch.proofs.Assembling.{along_listed, assembled, fits}
 use Rattle.patch.proofs.patches.made.patch_along.Goals as goal
 use Rattle.patch.specs.Flows.{feeders_kind, lateness_kind}
 use Rattle.patch.specs.Placing.{plan_of}
-use Rattle.patch.specs.Sweeps.{Swept_to, by_node}
+use Rattle.patch.specs.Sweeps.{SweptTo, by_node}
 
 pub sweep-late-requires : goal.sweep-late-requires
 sweep-late-requires g c =
@@ -28,8 +28,8 @@ returns g c =
     let units = c.unit_latenesses-units.result in
     assembled p (g.R.Rack.units rack) _ units c.requires.rules (g.R.Rack.lawful rack) c.requires.due c.requires.order refl c.arrange-inputs.ensures
     c.unit_latenesses-units.ensures.units
-    (subst (λ xs. Swept_to (lateness_kind units) p.lines xs (length xs) (by_node (lateness_kind units) c.sweep-late.result))
+    (subst (λ xs. SweptTo (lateness_kind units) p.lines xs (length xs) (by_node (lateness_kind units) c.sweep-late.result))
     c.nodes.ensures c.sweep-late.ensures.swept)
-    (subst (λ xs. Swept_to feeders_kind p.lines xs (length xs) (by_node feeders_kind c.sweep-fed.result))
+    (subst (λ xs. SweptTo feeders_kind p.lines xs (length xs) (by_node feeders_kind c.sweep-fed.result))
     c.nodes-2.ensures c.sweep-fed.ensures.swept)
     c.delays-held.ensures.held
