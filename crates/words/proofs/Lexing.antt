@@ -1,14 +1,15 @@
 -- Words, one after the other.
-use Rattle.std.proofs.Common.{◌≡◌, ℕ, ◌+◌, List, [], ◌∷◌, length, Ok, Err, sym, refl, ap, ◌∙◌, arith}
-use Rattle.words.specs.Parsing.{first_word, word}
+use Rattle.std.proofs.Common.{◌≡◌, ℕ, ◌+◌, cond, leb, List, [], ◌∷◌, length, drop, Ok, Err, sym, refl, ap, ◌∙◌, arith}
+use Rattle.words.specs.Parsing.{first_word, without_first, word}
 use Rattle.words.specs.Pieces.{is_nil, pieces, split}
 use Rattle.words.specs.Words.{cursor, line_words, placed, spelling}
 use Rattle.words.specs.declared.faults.ReadFault.TheVariants.{Form}
+use Rattle.words.specs.declared.pieces.Pieces.{Pieces}
 use Rattle.words.specs.declared.words.Words.{Words}
 
-pub words_new : (w : Words) (bytes : List ℕ) → pieces w.pieces ≡ split 32 bytes → w.pieces.at ≡ 0 → w.pieces.bytes.now ≡ bytes → cursor w ≡ line_words w.line bytes
+pub words_new : (ps : Pieces) (row : ℕ) (bytes : List ℕ) → pieces ps ≡ split 32 bytes → ps.at ≡ 0 → ps.bytes.now ≡ bytes → cursor (record { pieces = ps; line = row }) ≡ line_words row bytes
 unfolding cursor
-words_new w bytes p a b = λ i. record { after = record { line = w.line; column = length (b i) + 1 }; items = placed w.line (a i + 1) (p i) }
+words_new ps row bytes p a b = λ i. record { after = record { line = row; column = length (b i) + 1 }; items = placed row (a i + 1) (p i) }
 
 -- no word is left where no piece is
 pub done_is : (w : Words) → is_nil (pieces w.pieces) ≡ is_nil (cursor w).items
@@ -34,3 +35,27 @@ lex_some w v bytes el eb e ea =
       record { word = spelling bytes; place = record { line = w.line; column = w.pieces.at + 1 } },
       record { after = record { line = sym el i; column = length (sym eb i) + 1 }; items = placed (sym el i) (next i) (pieces v.pieces) },
     ))
+
+-- the words that are left, by where they stand
+pub same_cursor : (w v : Words) → w.line ≡ v.line → w.pieces.bytes.now ≡ v.pieces.bytes.now → w.pieces.mark ≡ v.pieces.mark → w.pieces.at ≡ v.pieces.at → cursor w ≡ cursor v
+unfolding cursor pieces
+same_cursor w v el eb em ea i = record {
+  after = record { line = el i; column = length (eb i) + 1 };
+  items = placed (el i) (ea i + 1) (cond (leb (ea i) (length (eb i))) (split (em i) (drop (ea i) (eb i))) []);
+}
+
+-- one word fewer
+pub lex_left : (w v : Words) (bytes : List ℕ) → v.line ≡ w.line → v.pieces.bytes.now ≡ w.pieces.bytes.now → pieces w.pieces ≡ bytes ∷ pieces v.pieces
+    → v.pieces.at ≡ w.pieces.at + length bytes + 1
+    → cursor v ≡ without_first (cursor w)
+unfolding cursor placed
+lex_left w v bytes el eb e ea =
+    let next : v.pieces.at + 1 ≡ w.pieces.at + 1 + length bytes + 1 = omega arith in
+    (λ i. record { after = record { line = el i; column = length (eb i) + 1 }; items = placed (el i) (next i) (pieces v.pieces) })
+    ∙ ap (λ ps. record { after = (cursor w).after; items = drop 1 (placed w.line (w.pieces.at + 1) ps) }) (sym e)
+
+pub lex_stays : (w : Words) → pieces w.pieces ≡ [] → cursor w ≡ without_first (cursor w)
+unfolding cursor placed
+lex_stays w e =
+    ap (λ ps. record { after = (cursor w).after; items = placed w.line (w.pieces.at + 1) ps }) e
+    ∙ ap (λ ps. record { after = (cursor w).after; items = drop 1 (placed w.line (w.pieces.at + 1) ps) }) (sym e)

@@ -1,5 +1,5 @@
 -- Reading the words of a line from left to right: each step takes words from the front, or refuses.
-use Rattle.std.specs.Prelude.{ℕ, Bool, cond, List, [], ◌∷◌, ℤ, Ok, Err, Option, Result}
+use Rattle.std.specs.Prelude.{ℕ, Bool, cond, List, [], ◌∷◌, drop, ℤ, Ok, Err, Option, Result}
 use Rattle.std.specs.Option.{ok_or}
 use Rattle.words.specs.Numbers.{between}
 use Rattle.words.specs.Words.{Cursor, Item, gain_of, is_name, whole_of}
@@ -49,6 +49,10 @@ first_word after (w ∷ ws) = Ok (w, record { after = after; items = ws })
 -- The next word; a missing word is refused after the line.
 abbrev pub word : Parse Item
 word k = first_word k.after k.items
+
+-- One word fewer, if there is one.
+abbrev pub without_first : Cursor → Cursor
+without_first k = record { after = k.after; items = drop 1 k.items }
 
 abbrev pub nothing_left : Cursor → List Item → Result (Unit {0} × Cursor) ReadFault
 nothing_left k [] = Ok (tt, k)

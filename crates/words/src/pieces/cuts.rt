@@ -1,4 +1,4 @@
-ghost use Rattle.std.specs.Prelude.{◌≡◌, ◌+◌, ◌≤◌, [], ◌∷◌, length, drop, MatchOption};
+ghost use Rattle.std.specs.Prelude.{◌≡◌, ◌+◌, ◌≤◌, false, [], ◌∷◌, length, drop, is_some, MatchOption};
 ghost use Rattle.words.specs.Pieces.{is_nil, nothing_follows, pieces, split, upto};
 
 use crate::pieces::Pieces;
@@ -19,6 +19,7 @@ fn find(bytes: &[u8], from: usize, mark: u8) -> usize
 }
 
 impl<'a> Pieces<'a> {
+    #[tactic(auto, using(crate::proofs::Cutting::pieces_some))]
     pub fn new(bytes: &'a [u8], mark: u8) -> Pieces<'a>
         requires { length bytes.now ≤ 16384 }
         ensures cut { pieces result ≡ split mark bytes.now }
@@ -45,6 +46,7 @@ impl<'a> Pieces<'a> {
     }
 
     // Whether no piece is left.
+    #[tactic(auto, using(crate::proofs::Cutting::pieces_done))]
     pub fn is_done(&self) -> bool
         ensures { result ≡ is_nil (pieces self.now) }
     {
@@ -59,10 +61,12 @@ impl<'a> Pieces<'a> {
     }
 
     // The next piece.
+    #[tactic(auto, using(crate::proofs::Cutting::pieces_none))]
     pub fn next(&mut self) -> Option<&'a [u8]>
         ensures bytes { self.new.bytes.now ≡ self.old.bytes.now }
         ensures mark { self.new.mark ≡ self.old.mark }
         ensures cut { MatchOption result (pieces self.old ≡ []) (λ p. (pieces self.old ≡ p.now ∷ pieces self.new) × (self.new.at ≡ self.old.at + length p.now + 1)) }
+        ensures stays { is_some result ≡ false → self.new.at ≡ self.old.at }
     {
         if self.at > self.bytes.len() {
             return None;

@@ -1,5 +1,5 @@
-ghost use Rattle.std.specs.Prelude.{◌≡◌, ◌≤◌, length};
-ghost use Rattle.words.specs.Parsing.{no_more, paired, word};
+ghost use Rattle.std.specs.Prelude.{◌≡◌, ◌≤◌, length, OnErr};
+ghost use Rattle.words.specs.Parsing.{no_more, paired, without_first, word};
 ghost use Rattle.words.specs.Pieces.{is_nil};
 ghost use Rattle.words.specs.Words.{cursor, has_digits, item, line_words, spelling, spelt};
 
@@ -28,6 +28,7 @@ fn word_of(bytes: &[u8]) -> Word<'_>
 }
 
 impl<'a> Words<'a> {
+    #[tactic(auto, using(crate::proofs::Lexing::words_new))]
     pub fn new(bytes: &'a [u8], line: usize) -> Words<'a>
         requires { length bytes.now ≤ 16384 }
         ensures { cursor result ≡ line_words line bytes.now }
@@ -39,6 +40,7 @@ impl<'a> Words<'a> {
     }
 
     // Whether no word is left.
+    #[tactic(auto, using(crate::proofs::Lexing::done_is))]
     pub fn is_done(&self) -> bool
         ensures { result ≡ is_nil (cursor self.now).items }
     {
@@ -47,7 +49,8 @@ impl<'a> Words<'a> {
 
     // The next word; where none is left, it is missing after the line.
     pub fn word(&mut self) -> Result<Token<'a>, ReadFault>
-        ensures { paired item result (cursor self.new) ≡ word (cursor self.old) }
+        ensures value { paired item result (cursor self.new) ≡ word (cursor self.old) }
+        ensures left { cursor self.new ≡ without_first (cursor self.old) }
     {
         let column = self.pieces.at() + 1;
         match self.pieces.next() {
@@ -65,9 +68,10 @@ impl<'a> Words<'a> {
         }
     }
 
-    // No word may be left.
+    // No word may be left; an extra one is taken.
     pub fn end(&mut self) -> Result<(), ReadFault>
-        ensures { paired (λ x. x) result (cursor self.new) ≡ no_more (cursor self.old) }
+        ensures value { paired (λ x. x) result (cursor self.new) ≡ no_more (cursor self.old) }
+        ensures left { OnErr result (cursor self.new ≡ without_first (cursor self.old)) }
     {
         if self.is_done() {
             return Ok(());

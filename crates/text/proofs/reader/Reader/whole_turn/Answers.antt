@@ -10,7 +10,7 @@ pub returns-in-Err : goal.returns-in-Err
 returns-in-Err c =
     let due = sym c.advance.ensures.due ∙ c.if-not-advance.false in
     record {
-      does = λ m. turn_err c.args.self.now.stage (draft c.args.self.now.draft) (cursor c.args.words.now) (item c.in_ok-word.word) (cursor c.word.new.self) c.first_of-first.result c.in_ok-word.ensures c.first_of-first.ensures due _ (c.in-Err.ensures.does m);
+      does = λ m. turn_err c.args.self.now.stage (draft c.args.self.now.draft) (cursor c.args.words.now) (item c.in_ok-word.word) (cursor c.word.new.self) c.first_of-first.result c.in_ok-word.ensures.value c.first_of-first.ensures due _ (c.in-Err.ensures.does m);
       staged = λ _. tt;
     }
 
@@ -19,7 +19,7 @@ returns-in-Ok c =
     let due = sym c.advance.ensures.due ∙ c.if-not-advance.false in
     let d = draft c.turn.new.draft in
     record {
-      does = turn_ok c.args.self.now.stage (draft c.args.self.now.draft) (cursor c.args.words.now) (item c.in_ok-word.word) (cursor c.word.new.self) c.first_of-first.result c.in_ok-word.ensures c.first_of-first.ensures due d (cursor c.turn.new.words) c.in-Ok.ensures.does
+      does = turn_ok c.args.self.now.stage (draft c.args.self.now.draft) (cursor c.args.words.now) (item c.in_ok-word.word) (cursor c.word.new.self) c.first_of-first.result c.in_ok-word.ensures.value c.first_of-first.ensures due d (cursor c.turn.new.words) c.in-Ok.ensures.does
           ∙ ap₂ (λ s e. Ok (record { stage = s; held = d; ended = e }, cursor c.turn.new.words)) (sym c.advance.ensures.after) (sym c.is_end.ensures);
       staged = λ h. let p = staged_on c.args.self.now.stage c.first_of-first.result (draft c.args.self.now.draft) d due h c.in-Ok.ensures.grows in
           (subst (λ s. staged s d ≡ true) (sym c.advance.ensures.after) p.0, λ e. p.1 (sym c.is_end.ensures ∙ e));

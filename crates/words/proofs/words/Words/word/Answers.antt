@@ -1,5 +1,5 @@
 use Rattle.std.proofs.Common.{◌+◌, length, Ok, Err, sym, refl, ap, ◌∙◌, ap₂}
-use Rattle.words.proofs.Lexing.{lex_none, lex_some}
+use Rattle.words.proofs.Lexing.{lex_left, lex_none, lex_some, lex_stays, same_cursor}
 use Rattle.words.proofs.words.Words.word.Goals as goal
 use Rattle.words.specs.Words.{cursor}
 use Rattle.words.specs.declared.faults.ReadFault.TheVariants.{Form}
@@ -7,13 +7,19 @@ use Rattle.words.specs.declared.faults.ReadFault.TheVariants.{Form}
 pub returns-in-Some : goal.returns-in-Some
 returns-in-Some c =
     let e = c.in-Some.ensures in
-    sym (lex_some c.args.self.now (record { pieces = c.next.new.self; line = c.args.self.now.line }) c.in-Some.bytes.now refl e.bytes e.cut.0 e.cut.1
-    ∙ ap₂ (λ s k. Ok (record { word = s; place = record { line = c.args.self.now.line; column = k + 1 } }, cursor (record { pieces = c.next.new.self; line = c.args.self.now.line })))
-    (sym c.word_of.ensures) (sym c.at-column.ensures.value))
+    record {
+      value = sym (lex_some c.args.self.now (record { pieces = c.next.new.self; line = c.args.self.now.line }) c.in-Some.bytes.now refl e.bytes e.cut.0 e.cut.1
+          ∙ ap₂ (λ s k. Ok (record { word = s; place = record { line = c.args.self.now.line; column = k + 1 } }, cursor (record { pieces = c.next.new.self; line = c.args.self.now.line })))
+          (sym c.word_of.ensures) (sym c.at-column.ensures.value));
+      left = lex_left c.args.self.now (record { pieces = c.next.new.self; line = c.args.self.now.line }) c.in-Some.bytes.now refl e.bytes e.cut.0 e.cut.1;
+    }
 
 pub returns-in-None : goal.returns-in-None
 unfolding cursor
 returns-in-None c =
     let e = c.in-None.ensures in
-    sym (lex_none c.args.self.now e.cut
-    ∙ ap (λ n. Err (Form (record { line = c.args.self.now.line; column = n + 1 }))) (sym (c.len.ensures.value ∙ ap length e.bytes)))
+    record {
+      value = sym (lex_none c.args.self.now e.cut
+          ∙ ap (λ n. Err (Form (record { line = c.args.self.now.line; column = n + 1 }))) (sym (c.len.ensures.value ∙ ap length e.bytes)));
+      left = same_cursor (record { pieces = c.next.new.self; line = c.args.self.now.line }) c.args.self.now refl e.bytes e.mark (e.stays refl) ∙ lex_stays c.args.self.now e.cut;
+    }
