@@ -2,7 +2,7 @@ ghost use Rattle.std.specs.Prelude.{◌≡◌, ◌≤◌, true, length, IfOk, na
 ghost use Rattle.session.specs.Contents.{bus_at, free, line_fits, node_fits};
 ghost use Rattle.session.specs.Drafts.{draft as contents_of};
 ghost use Rattle.forms.specs.Forms.{joined_form, line_form, node_form, numbered, role_fits, role_most, session_form, some_unit, source_form, unit_part};
-ghost use Rattle.words.specs.Parsing.{gain_word, keyword, paired, ranged};
+ghost use Rattle.words.specs.Parsing.{gain_word, keyword, paired, ranged, without_first};
 ghost use Rattle.words.specs.Words.{cursor, item};
 
 use crate::roles::{Role, fits, most};
@@ -11,10 +11,11 @@ use session::sessions::drafts::Draft;
 use words::faults::ReadFault;
 use words::words::{Token, Words};
 
-// A unit's or a node's number.
+// A unit's or a node's number. One word is taken, fit or not.
 pub fn numbered(draft: &Draft, role: Role, words: &mut Words<'_>) -> Result<u8, ReadFault>
     ensures value { paired (λ x. x) result (cursor words.new) ≡ numbered (contents_of draft.now) role (cursor words.old) }
     ensures fits { IfOk result (λ n. (n ≤ role_most role) × (role_fits (contents_of draft.now) role n ≡ true)) }
+    ensures left { cursor words.new ≡ without_first (cursor words.old) }
 {
     let word = words.word()?;
     let n = word.number(0, most(role))? as u8;
@@ -45,8 +46,10 @@ pub fn ranged(words: &mut Words<'_>, low: u32, high: u32) -> Result<u32, ReadFau
     word.number(low, high)
 }
 
+// A gain. One word is taken, fit or not.
 pub fn gain(words: &mut Words<'_>) -> Result<i16, ReadFault>
-    ensures { paired (λ x. x) result (cursor words.new) ≡ gain_word (cursor words.old) }
+    ensures value { paired (λ x. x) result (cursor words.new) ≡ gain_word (cursor words.old) }
+    ensures left { cursor words.new ≡ without_first (cursor words.old) }
 {
     let word = words.word()?;
     word.gain()

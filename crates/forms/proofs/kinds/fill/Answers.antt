@@ -12,13 +12,13 @@ returns-in_err-taps c =
     let p = err_from_is_err_and c.from_residual.result c.from_residual.ensures.1 in
     let n : c.args.count - c.loop-i.i ≡ suc (c.args.count - (c.loop-i.i + 1)) = omega arith in
     rw (p.1, p.2) (sym (ap (λ m. taps_form c.loop-i.i m c.loop-i.taps (cursor c.loop-i.words)) n
-    ∙ taps_stop c.loop-i.i _ c.loop-i.taps (cursor c.loop-i.words) _ c.in_err-taps.ensures) ∙ c.loop-i.invariant.0)
+    ∙ taps_stop c.loop-i.i _ c.loop-i.taps (cursor c.loop-i.words) _ c.in_err-taps.ensures.value) ∙ c.loop-i.invariant.0)
 
 pub loop-i-preserved : goal.loop-i-preserved
 loop-i-preserved c =
     let g = c.in_ok-taps.field-0 in
     let f : SFits w16 c.in_ok-taps.field-0 = search rules in
-    let h = c.in_ok-taps.ensures in
+    let h = c.in_ok-taps.ensures.value in
     let n : c.args.count - c.loop-i.i ≡ suc (c.args.count - (c.loop-i.i + 1)) = omega arith in (
       ap (λ z. taps_form (c.loop-i.i + 1) (c.args.count - (c.loop-i.i + 1)) (set c.loop-i.taps c.loop-i.i z) (cursor c.gain.new.words)) (to_z-of_z w16 g f)
           ∙ sym (ap (λ m. taps_form c.loop-i.i m c.loop-i.taps (cursor c.loop-i.words)) n ∙ taps_more c.loop-i.i _ c.loop-i.taps (cursor c.loop-i.words) g _ h)
