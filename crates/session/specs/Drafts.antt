@@ -1,5 +1,5 @@
 -- A draft by what it holds, and when an addition fits.
-use Rattle.std.specs.Prelude.{◌≡◌, Bool, true, false, Ok, Err, vec_items, Result}
+use Rattle.std.specs.Prelude.{◌≡◌, ◌≤◌, Bool, true, false, Ok, Err, vec_items, vec_len, vec_capacity, Result}
 use Rattle.session.specs.Contents.{Contents, contents}
 use Rattle.session.specs.Held.{Held}
 use Rattle.session.specs.declared.sessions.drafts.Draft.{Draft}
@@ -17,3 +17,10 @@ abbrev pub AnswersFit : {X : Type 0} → Result X DraftFault → Bool → Type 0
 AnswersFit (Ok x) fits = fits ≡ true
 AnswersFit (Err Unfit) fits = fits ≡ false
 AnswersFit (Err NoMemory) fits = fits ≡ true
+
+-- The room for nodes, or for lines, is used up, so that one more wants memory.
+abbrev pub NodesFull : Draft → Type 0
+NodesFull d = vec_capacity d.nodes ≤ vec_len d.nodes
+
+abbrev pub LinesFull : Draft → Type 0
+LinesFull d = vec_capacity d.lines ≤ vec_len d.lines

@@ -1,6 +1,6 @@
 ghost use Rattle.std.specs.Prelude.{◌≡◌, is_ok, if◌then◌else◌};
 ghost use Rattle.session.specs.Contents.{contents, free, line_fits, no_contents, node_fits, rate_fits, ready, with_line, with_node, with_rate};
-ghost use Rattle.session.specs.Drafts.{AnswersFit, draft};
+ghost use Rattle.session.specs.Drafts.{AnswersFit, LinesFull, NodesFull, draft};
 ghost use Rattle.session.specs.Sessions.{held};
 
 use crate::nodes::{Line, Node};
@@ -54,6 +54,7 @@ impl Draft {
     pub fn add_node(&mut self, node: Node) -> Result<(), DraftFault>
         ensures fits { AnswersFit result (node_fits (draft self.old) node) }
         ensures after { draft self.new ≡ (if is_ok result then with_node (draft self.old) node else draft self.old) }
+        ensures room { result ≡ Err DraftFault.NoMemory → NodesFull self.old }
     {
         if self.nodes.len() >= 16 || !self.has_free(node.unit) {
             return Err(DraftFault::Unfit);
@@ -68,6 +69,7 @@ impl Draft {
     pub fn add_line(&mut self, line: Line) -> Result<(), DraftFault>
         ensures fits { AnswersFit result (line_fits (draft self.old) line) }
         ensures after { draft self.new ≡ (if is_ok result then with_line (draft self.old) line else draft self.old) }
+        ensures room { result ≡ Err DraftFault.NoMemory → LinesFull self.old }
     {
         if self.lines.len() >= 48
             || usize::from(line.start) >= self.nodes.len()
