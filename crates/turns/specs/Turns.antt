@@ -1,5 +1,5 @@
 -- What each line makes of what is held.
-use Rattle.std.specs.Prelude.{◌≡◌, Bool, true, false, Ok, Err, Result}
+use Rattle.std.specs.Prelude.{◌≡◌, Bool, true, false, ◌⊎◌, Ok, Err, Result}
 use Rattle.forms.specs.Forms.{line_form, node_form, session_form, unit_form}
 use Rattle.session.specs.Contents.{Contents, with_line, with_node, with_rate, with_unit}
 use Rattle.words.specs.Parsing.{Parse, ◌>>=◌, give}
@@ -35,3 +35,8 @@ wants_memory NoMemory = true
 abbrev pub Does : {T X : Type 0} → (T → X) → Result T ReadFault → Cursor → Result (X × Cursor) ReadFault → Type 0
 Does f (Ok t) k spec = spec ≡ Ok (f t, k)
 Does f (Err e) k spec = wants_memory e ≡ false → spec ≡ Err e
+
+-- A call does what the definition says, or it wants memory where May holds.
+abbrev pub DoesOrWants : {T X : Type 0} → (T → X) → Result T ReadFault → Cursor → Result (X × Cursor) ReadFault → Type 0 → Type 0
+DoesOrWants f (Ok t) k spec May = spec ≡ Ok (f t, k)
+DoesOrWants f (Err e) k spec May = (spec ≡ Err e) ⊎ ((e ≡ NoMemory) × May)

@@ -1,8 +1,9 @@
-ghost use Rattle.std.specs.Prelude.{◌≡◌, ◌+◌, ◌<◌, ◌≤◌, true, length, OnOk};
+ghost use Rattle.std.specs.Prelude.{◌≡◌, ◌+◌, ◌<◌, ◌≤◌, true, length, is_ok, OnErr, OnOk};
 ghost use Rattle.session.specs.Contents.{is_set};
-ghost use Rattle.session.specs.Drafts.{draft as contents_of};
+ghost use Rattle.session.specs.Drafts.{LinesFull, NodesFull, draft as contents_of};
 ghost use Rattle.forms.specs.Forms.{bypass_form, given_layer, layer_form, trim_form};
-ghost use Rattle.turns.specs.Turns.{Does, line_turn, node_turn, session_turn, unit_turn};
+ghost use Rattle.turns.specs.Turns.{Does, DoesOrWants, line_turn, node_turn, session_turn, unit_turn};
+ghost use Rattle.words.specs.Parsing.{paired};
 ghost use Rattle.words.specs.Words.{cursor, item};
 
 use forms::{Role, gain, kind, line, node, numbered, session};
@@ -15,6 +16,8 @@ pub fn session_turn(draft: &mut Draft, words: &mut Words<'_>) -> Result<(), Read
     ensures does { Does (λ _. contents_of draft.new) result (cursor words.new) (session_turn (contents_of draft.old) (cursor words.old)) }
     ensures rate { OnOk result (0 < (contents_of draft.new).rate) }
     ensures nodes { OnOk result ((contents_of draft.new).nodes ≡ (contents_of draft.old).nodes) }
+    ensures exact { paired (λ _. contents_of draft.new) result (cursor words.new) ≡ session_turn (contents_of draft.old) (cursor words.old) }
+    ensures stays { OnErr result (contents_of draft.new ≡ contents_of draft.old) }
 {
     let rate = session(words)?;
     draft.set_rate(rate);
@@ -25,6 +28,8 @@ pub fn unit_turn(draft: &mut Draft, words: &mut Words<'_>) -> Result<(), ReadFau
     ensures does { Does (λ _. contents_of draft.new) result (cursor words.new) (unit_turn (contents_of draft.old) (cursor words.old)) }
     ensures rate { OnOk result ((contents_of draft.new).rate ≡ (contents_of draft.old).rate) }
     ensures nodes { OnOk result ((contents_of draft.new).nodes ≡ (contents_of draft.old).nodes) }
+    ensures exact { paired (λ _. contents_of draft.new) result (cursor words.new) ≡ unit_turn (contents_of draft.old) (cursor words.old) }
+    ensures stays { OnErr result (contents_of draft.new ≡ contents_of draft.old) }
 {
     let s = numbered(draft, Role::NewUnit, words)?;
     let kind = kind(words, s)?;
@@ -40,9 +45,10 @@ fn trim_layer(
     words: &mut Words<'_>,
 ) -> Result<(), ReadFault>
     requires { is_set (contents_of draft.old) s ≡ true }
-    ensures does { Does (λ _. contents_of draft.new) result (cursor words.new) (trim_form (contents_of draft.old) s (item word.now) (cursor words.old)) }
+    ensures exact { paired (λ _. contents_of draft.new) result (cursor words.new) ≡ trim_form (contents_of draft.old) s (item word.now) (cursor words.old) }
     ensures rate { OnOk result ((contents_of draft.new).rate ≡ (contents_of draft.old).rate) }
     ensures nodes { OnOk result ((contents_of draft.new).nodes ≡ (contents_of draft.old).nodes) }
+    ensures stays { OnErr result (contents_of draft.new ≡ contents_of draft.old) }
 {
     if draft.has_trim(s) {
         return Err(ReadFault::Fit(word.place));
@@ -60,9 +66,10 @@ fn bypass_layer(
     words: &mut Words<'_>,
 ) -> Result<(), ReadFault>
     requires { is_set (contents_of draft.old) s ≡ true }
-    ensures does { Does (λ _. contents_of draft.new) result (cursor words.new) (bypass_form (contents_of draft.old) s (item word.now) (cursor words.old)) }
+    ensures exact { paired (λ _. contents_of draft.new) result (cursor words.new) ≡ bypass_form (contents_of draft.old) s (item word.now) (cursor words.old) }
     ensures rate { OnOk result ((contents_of draft.new).rate ≡ (contents_of draft.old).rate) }
     ensures nodes { OnOk result ((contents_of draft.new).nodes ≡ (contents_of draft.old).nodes) }
+    ensures stays { OnErr result (contents_of draft.new ≡ contents_of draft.old) }
 {
     if draft.has_bypass(s) {
         return Err(ReadFault::Fit(word.place));
@@ -79,9 +86,10 @@ fn given_layer(
     words: &mut Words<'_>,
 ) -> Result<(), ReadFault>
     requires { is_set (contents_of draft.old) s ≡ true }
-    ensures does { Does (λ _. contents_of draft.new) result (cursor words.new) (given_layer (contents_of draft.old) s (item word.now) (cursor words.old)) }
+    ensures exact { paired (λ _. contents_of draft.new) result (cursor words.new) ≡ given_layer (contents_of draft.old) s (item word.now) (cursor words.old) }
     ensures rate { OnOk result ((contents_of draft.new).rate ≡ (contents_of draft.old).rate) }
     ensures nodes { OnOk result ((contents_of draft.new).nodes ≡ (contents_of draft.old).nodes) }
+    ensures stays { OnErr result (contents_of draft.new ≡ contents_of draft.old) }
 {
     if word.is(b"trim") {
         trim_layer(draft, s, word, words)
@@ -96,6 +104,8 @@ pub fn layer_turn(draft: &mut Draft, words: &mut Words<'_>) -> Result<(), ReadFa
     ensures does { Does (λ _. contents_of draft.new) result (cursor words.new) (layer_form (contents_of draft.old) (cursor words.old)) }
     ensures rate { OnOk result ((contents_of draft.new).rate ≡ (contents_of draft.old).rate) }
     ensures nodes { OnOk result ((contents_of draft.new).nodes ≡ (contents_of draft.old).nodes) }
+    ensures exact { paired (λ _. contents_of draft.new) result (cursor words.new) ≡ layer_form (contents_of draft.old) (cursor words.old) }
+    ensures stays { OnErr result (contents_of draft.new ≡ contents_of draft.old) }
 {
     let s = numbered(draft, Role::SetUnit, words)?;
     let word = words.word()?;
@@ -106,6 +116,8 @@ pub fn node_turn(draft: &mut Draft, words: &mut Words<'_>) -> Result<(), ReadFau
     ensures does { Does (λ _. contents_of draft.new) result (cursor words.new) (node_turn (contents_of draft.old) (cursor words.old)) }
     ensures rate { OnOk result ((contents_of draft.new).rate ≡ (contents_of draft.old).rate) }
     ensures nodes { OnOk result (length (contents_of draft.new).nodes ≡ length (contents_of draft.old).nodes + 1) }
+    ensures wants { DoesOrWants (λ _. contents_of draft.new) result (cursor words.new) (node_turn (contents_of draft.old) (cursor words.old)) ((is_ok (node_turn (contents_of draft.old) (cursor words.old)) ≡ true) × NodesFull draft.old) }
+    ensures stays { OnErr result (contents_of draft.new ≡ contents_of draft.old) }
 {
     let node = node(draft, words)?;
     match draft.add_node(node) {
@@ -123,6 +135,8 @@ pub fn line_turn(
     ensures does { Does (λ _. contents_of draft.new) result (cursor words.new) (line_turn (contents_of draft.old) (item word.now) (cursor words.old)) }
     ensures rate { OnOk result ((contents_of draft.new).rate ≡ (contents_of draft.old).rate) }
     ensures nodes { OnOk result ((contents_of draft.new).nodes ≡ (contents_of draft.old).nodes) }
+    ensures wants { DoesOrWants (λ _. contents_of draft.new) result (cursor words.new) (line_turn (contents_of draft.old) (item word.now) (cursor words.old)) ((is_ok (line_turn (contents_of draft.old) (item word.now) (cursor words.old)) ≡ true) × LinesFull draft.old) }
+    ensures stays { OnErr result (contents_of draft.new ≡ contents_of draft.old) }
 {
     let line = line(draft, word, words)?;
     match draft.add_line(line) {
