@@ -1,13 +1,13 @@
 -- Lines, one after the other.
-use Rattle.std.proofs.Common.{◌≡◌, ℕ, ◌+◌, Bool, true, false, cond, List, [], ◌∷◌, IfOk, Ok, Err, Result, sym, refl, ap, ◌∙◌, subst}
+use Rattle.std.proofs.Common.{◌≡◌, ℕ, ◌+◌, Bool, true, false, cond, not, ◌⊎◌, List, [], ◌∷◌, IfOk, Ok, Err, Result, sym, refl, ap, ◌∙◌, subst, inl, ⊎_elim}
 use Rattle.session.specs.Contents.{Contents}
-use Rattle.std.proofs.lemmas.Bool.{cond-false, cond-true}
+use Rattle.std.proofs.lemmas.Bool.{and_from, cond-false, cond-true, false≢true, or_left, or_right}
 use Rattle.words.specs.Pieces.{is_nil, nothing_follows}
-use Rattle.text.specs.Reading.{Gives, closed, line_read, lines_read, passes}
+use Rattle.text.specs.Reading.{Gives, GivesOrWants, closed, held_by_then, line_holds, line_read, lines_read, passes, some_held}
 use Rattle.turns.specs.Turns.{wants_memory}
-use Rattle.text.specs.Turning.{Turned}
+use Rattle.text.specs.Turning.{Turned, has_held}
 use Rattle.words.specs.declared.faults.ReadFault.{ReadFault}
-use Rattle.words.specs.declared.faults.ReadFault.TheVariants.{Byte, Rest}
+use Rattle.words.specs.declared.faults.ReadFault.TheVariants.{Byte, NoMemory, Rest}
 use Rattle.text.specs.declared.stages.Stage.{Stage}
 
 pub lines_none : (row : ℕ) (st : Stage) (c : Contents) → lines_read row st c [] ≡ Err (Byte (record { line = row; column = 1 }))
@@ -30,18 +30,37 @@ module _ (row : ℕ) (st : Stage) (c : Contents) (l : List ℕ) (ls : List (List
     pub lines_more : t.ended ≡ false → lines_read row st c (l ∷ ls) ≡ lines_read (row + 1) t.stage t.held ls
     lines_more e = step ∙ cond-false _ _ _ e
 
-pub gives_err : {T X : Type 0} (f : T → X) (r : Result T ReadFault) (spec : Result X ReadFault) (e : ReadFault) → r ≡ Err e → (wants_memory e ≡ false → spec ≡ Err e) → Gives f r spec
-gives_err f r spec e h g = subst (λ r. Gives f r spec) (sym h) g
+-- a node or a line is held by line `row`, or later
+module _ (row : ℕ) (st : Stage) (c : Contents) (l : List ℕ) (ls : List (List ℕ)) where
+  pub held_now : line_holds (line_read row st c l (is_nil ls)) ≡ true → some_held row st c (l ∷ ls) ≡ true
+  unfolding some_held
+  held_now h = go (line_read row st c l (is_nil ls)) h
+    where
+      go : (r : Result Turned ReadFault) → line_holds r ≡ true → held_by_then r (λ t. some_held (row + 1) t.stage t.held ls) ≡ true
+      go (Ok t) e = or_left _ _ e
+      go (Err f) e = absurd (false≢true e)
+
+  pub held_later : (t : Turned) → line_read row st c l (is_nil ls) ≡ Ok t → t.ended ≡ false → some_held (row + 1) t.stage t.held ls ≡ true → some_held row st c (l ∷ ls) ≡ true
+  unfolding some_held
+  held_later t h n s = ap (λ r. held_by_then r (λ t. some_held (row + 1) t.stage t.held ls)) h ∙ or_right (has_held t) _ (and_from (not t.ended) _ (ap not n) s)
+
+pub gives_err : {T X : Type 0} (f : T → X) (r : Result T ReadFault) (spec : Result X ReadFault) (May : Type 0) (e : ReadFault) → r ≡ Err e → (spec ≡ Err e) ⊎ ((e ≡ NoMemory) × May) → GivesOrWants f r spec May
+gives_err f r spec May e h g = subst (λ r. GivesOrWants f r spec May) (sym h) g
+
+-- what does not want memory does what the definition says
+pub gives_less : {T X : Type 0} (f : T → X) (r : Result T ReadFault) (spec : Result X ReadFault) (May : Type 0) → GivesOrWants f r spec May → Gives f r spec
+gives_less f (Ok t) spec May g = g
+gives_less f (Err e) spec May g = λ m. ⊎_elim (λ h. h) (λ p. absurd (false≢true (sym m ∙ ap wants_memory p.0))) g
 
 pub made_always : {T E : Type 0} (r : Result T E) (P : Type 0) → P → IfOk r (λ _. P)
 made_always (Ok x) P h = h
 made_always (Err e) P h = tt
 
 -- what `close` promises
-pub gives_closed : (row : ℕ) (ls : List (List ℕ)) (c : Contents) (r : Result (Unit {0}) ReadFault) (spec : Result Contents ReadFault)
-    → r ≡ closed row ls tt → spec ≡ closed row ls c → Gives (λ _. c) r spec
-gives_closed row ls c r spec e h = subst (λ r. Gives (λ _. c) r spec) (sym e) (subst (Gives (λ _. c) (closed row ls tt)) (sym h) (go (nothing_follows ls)))
+pub gives_closed : (row : ℕ) (ls : List (List ℕ)) (c : Contents) (r : Result (Unit {0}) ReadFault) (spec : Result Contents ReadFault) (May : Type 0)
+    → r ≡ closed row ls tt → spec ≡ closed row ls c → GivesOrWants (λ _. c) r spec May
+gives_closed row ls c r spec May e h = subst (λ r. GivesOrWants (λ _. c) r spec May) (sym e) (subst (λ s. GivesOrWants (λ _. c) (closed row ls tt) s May) (sym h) (go (nothing_follows ls)))
   where
-    go : (b : Bool) → Gives (λ (_ : Unit {0}). c) (cond b (Ok tt) (Err (Rest (record { line = row + 1; column = 1 })))) (cond b (Ok c) (Err (Rest (record { line = row + 1; column = 1 }))))
+    go : (b : Bool) → GivesOrWants (λ (_ : Unit {0}). c) (cond b (Ok tt) (Err (Rest (record { line = row + 1; column = 1 })))) (cond b (Ok c) (Err (Rest (record { line = row + 1; column = 1 })))) May
     go true = refl
-    go false = λ _. refl
+    go false = inl refl

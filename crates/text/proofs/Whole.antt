@@ -1,15 +1,44 @@
 -- A whole line, from its first word.
-use Rattle.std.proofs.Common.{◌≡◌, true, false, is_some, Some, None, Ok, Err, Option, unwrap_or, sym, refl, ap, ◌∙◌}
+use Rattle.std.proofs.Common.{◌≡◌, true, false, not, ◌&&◌, is_some, is_ok, Some, None, Ok, Err, Option, Result, unwrap_or, sym, refl, ap, ◌∙◌, inl, inr}
 use Rattle.session.specs.Contents.{Contents}
+use Rattle.session.specs.declared.sessions.drafts.Draft.{Draft}
 use Rattle.std.proofs.lemmas.Bool.{false≢true}
 use Rattle.words.specs.Parsing.{Parse, asked, give, then, word, ◌>>=◌}
 use Rattle.text.specs.Stages.{first_of, is_end, next_stage}
-use Rattle.text.specs.Turning.{Turned, turn, whole_turn}
+use Rattle.text.specs.Reading.{line_holds, value_of}
+use Rattle.text.specs.Turning.{RoomUsed, SomeFull, Turned, late, turn, whole_turn}
 use Rattle.words.specs.Words.{Cursor, Item}
 use Rattle.words.specs.declared.faults.ReadFault as faults
 use Rattle.words.specs.declared.faults.ReadFault.TheVariants.{First as NotDue}
 use Rattle.text.specs.declared.stages.First as firsts
+use Rattle.text.specs.declared.stages.First.TheVariants.{Session, Unit, Layer, Node, Line, End, Other}
 use Rattle.text.specs.declared.stages.Stage.{Stage}
+use Rattle.text.specs.declared.stages.Stage.TheVariants.{Head, Units, Nodes, Lines}
+
+-- a line that wants memory brings the reader among nodes or lines
+wants_late : (st : Stage) (first : firsts.First) (d : Draft) → RoomUsed first d → is_some (next_stage st first) ≡ true → late (unwrap_or (next_stage st first) st) && not (is_end first) ≡ true
+wants_late st Session d a due = absurd a
+wants_late st Unit d a due = absurd a
+wants_late st Layer d a due = absurd a
+wants_late Head Node d a due = absurd (false≢true due)
+wants_late Units Node d a due = refl
+wants_late Nodes Node d a due = refl
+wants_late Lines Node d a due = absurd (false≢true due)
+wants_late Head Line d a due = absurd (false≢true due)
+wants_late Units Line d a due = absurd (false≢true due)
+wants_late Nodes Line d a due = refl
+wants_late Lines Line d a due = refl
+wants_late st End d a due = absurd a
+wants_late st Other d a due = absurd a
+
+pub some_full : (first : firsts.First) (d : Draft) → RoomUsed first d → SomeFull d
+some_full Session d a = absurd a
+some_full Unit d a = absurd a
+some_full Layer d a = absurd a
+some_full Node d a = inl a
+some_full Line d a = inr a
+some_full End d a = absurd a
+some_full Other d a = absurd a
 
 abbrev pub rest_turn : firsts.First → Contents → Item → Stage → Parse Turned
 rest_turn first c w next = turn first c w >>= (λ d. give (record { stage = next; held = d; ended = is_end first }))
@@ -38,6 +67,13 @@ module _ (st : Stage) (c : Contents) (k : Cursor) (w : Item) (k₁ : Cursor) (fi
 
     pub turn_ok : (d : Contents) (k₂ : Cursor) → turn first c w k₁ ≡ Ok (d, k₂) → whole_turn st c k ≡ Ok (record { stage = unwrap_or (next_stage st first) st; held = d; ended = is_end first }, k₂)
     turn_ok d k₂ h = to_turn ∙ ap (λ r. then r (λ x. give (record { stage = unwrap_or (next_stage st first) st; held = x; ended = is_end first }))) h
+
+    pub turn_holds : (d : Draft) → is_ok (turn first c w k₁) ≡ true → RoomUsed first d → line_holds (value_of (whole_turn st c k)) ≡ true
+    turn_holds d o a = ap (λ r. line_holds (value_of r)) to_turn ∙ go (turn first c w k₁) o
+      where
+        go : (r : Result (Contents × Cursor) faults.ReadFault) → is_ok r ≡ true → line_holds (value_of (then r (λ x. give (record { stage = unwrap_or (next_stage st first) st; held = x; ended = is_end first })))) ≡ true
+        go (Ok p) e = wants_late st first d a due
+        go (Err f) e = absurd (false≢true e)
 
     pub turn_err : (e : faults.ReadFault) → turn first c w k₁ ≡ Err e → whole_turn st c k ≡ Err e
     turn_err e h = to_turn ∙ ap (λ r. then r (λ x. give (record { stage = unwrap_or (next_stage st first) st; held = x; ended = is_end first }))) h

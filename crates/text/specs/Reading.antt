@@ -1,13 +1,13 @@
 -- The definition of reading: lines in order, each through its checks in order.
-use Rattle.std.specs.Prelude.{◌≡◌, ℕ, ◌+◌, Bool, false, cond, ◌||◌, List, [], ◌∷◌, length, Ok, Err, Result, ◌==◌, nat_le, nat_lt}
+use Rattle.std.specs.Prelude.{◌≡◌, ℕ, ◌+◌, Bool, false, cond, not, ◌&&◌, ◌||◌, ◌⊎◌, List, [], ◌∷◌, length, Ok, Err, Result, ◌==◌, nat_le, nat_lt}
 use Rattle.session.specs.Contents.{Contents, no_contents}
 use Rattle.words.specs.Bytes.{known_run}
 use Rattle.words.specs.Pieces.{is_nil, nothing_follows, split}
 use Rattle.turns.specs.Turns.{wants_memory}
-use Rattle.text.specs.Turning.{Turned, whole_turn}
+use Rattle.text.specs.Turning.{Turned, has_held, whole_turn}
 use Rattle.words.specs.Words.{Cursor, line_words}
 use Rattle.words.specs.declared.faults.ReadFault.{ReadFault}
-use Rattle.words.specs.declared.faults.ReadFault.TheVariants.{Byte, Long, Rest, Space}
+use Rattle.words.specs.declared.faults.ReadFault.TheVariants.{Byte, Long, NoMemory, Rest, Space}
 use Rattle.text.specs.declared.stages.Stage.{Stage}
 use Rattle.text.specs.declared.stages.Stage.TheVariants.{Head}
 
@@ -52,3 +52,26 @@ reading text = cond (nat_le (length text) 16384) (lines_read 1 Head no_contents 
 abbrev pub Gives : {T X : Type 0} → (T → X) → Result T ReadFault → Result X ReadFault → Type 0
 Gives f (Ok t) spec = spec ≡ Ok (f t)
 Gives f (Err e) spec = wants_memory e ≡ false → spec ≡ Err e
+
+-- Whether a line is all right and holds a node or a line.
+abbrev pub line_holds : Result Turned ReadFault → Bool
+line_holds (Ok t) = has_held t
+line_holds (Err e) = false
+
+abbrev pub held_by_then : Result Turned ReadFault → (Turned → Bool) → Bool
+held_by_then (Ok t) later = has_held t || (not t.ended && later t)
+held_by_then (Err e) later = false
+
+-- Whether the lines from line `row` on are all right up to one that holds a node or a line.
+unfoldable pub some_held : ℕ → Stage → Contents → List (List ℕ) → Bool
+some_held row stage c [] = false
+some_held row stage c (line ∷ rest) = held_by_then (line_read row stage c line (is_nil rest)) (λ t. some_held (row + 1) t.stage t.held rest)
+
+-- Whether memory may be wanted for a text: it is not too long, and its lines are all right up to the first node's.
+abbrev pub may_want : List ℕ → Bool
+may_want text = nat_le (length text) 16384 && some_held 1 Head no_contents (split 10 text)
+
+-- A call does what the definition says, or it wants memory where May holds.
+abbrev pub GivesOrWants : {T X : Type 0} → (T → X) → Result T ReadFault → Result X ReadFault → Type 0 → Type 0
+GivesOrWants f (Ok t) spec May = spec ≡ Ok (f t)
+GivesOrWants f (Err e) spec May = (spec ≡ Err e) ⊎ ((e ≡ NoMemory) × May)

@@ -1,8 +1,10 @@
 -- A whole line, from its first word on.
-use Rattle.std.specs.Prelude.{◌≡◌, ◌+◌, ◌<◌, Bool, true, length, nat_lt}
+use Rattle.std.specs.Prelude.{◌≡◌, ◌+◌, ◌<◌, Bool, true, false, not, ◌&&◌, ◌⊎◌, length, nat_lt}
 use Rattle.forms.specs.Forms.{layer_form}
 use Rattle.turns.specs.Turns.{line_turn, node_turn, session_turn, unit_turn}
 use Rattle.session.specs.Contents.{Contents, ready}
+use Rattle.session.specs.Drafts.{LinesFull, NodesFull}
+use Rattle.session.specs.declared.sessions.drafts.Draft.{Draft}
 use Rattle.text.specs.Stages.{first_of, is_end, next_stage}
 use Rattle.text.specs.declared.stages.First.{First}
 use Rattle.text.specs.declared.stages.First.TheVariants.{Session, Unit, Layer, Node, Line, End, Other}
@@ -21,6 +23,19 @@ turn Node c w = node_turn c
 turn Line c w = line_turn c w
 turn End c w = no_more >> give c
 turn Other c w = refuse (NotDue w.place)
+
+-- The room for what a line adds is used up. Only node lines and line lines add, so no other wants memory.
+abbrev pub RoomUsed : First → Draft → Type 0
+RoomUsed Session d = ⊥
+RoomUsed Unit d = ⊥
+RoomUsed Layer d = ⊥
+RoomUsed Node d = NodesFull d
+RoomUsed Line d = LinesFull d
+RoomUsed End d = ⊥
+RoomUsed Other d = ⊥
+
+abbrev pub SomeFull : Draft → Type 0
+SomeFull d = NodesFull d ⊎ LinesFull d
 
 -- After a line: where the reader is, what is held, and whether the text has ended.
 pub record Turned : Type 0 where
@@ -50,3 +65,13 @@ staged Head c = true
 staged Units c = nat_lt 0 c.rate
 staged Nodes c = ready c
 staged Lines c = ready c
+
+-- Whether the reader is among nodes or lines and goes on: it has just held a node or a line.
+abbrev pub late : Stage → Bool
+late Head = false
+late Units = false
+late Nodes = true
+late Lines = true
+
+abbrev pub has_held : Turned → Bool
+has_held t = late t.stage && not t.ended

@@ -4,9 +4,9 @@ ghost use Rattle.session.specs.Drafts.{draft as contents_of};
 ghost use Rattle.session.specs.Held.{nothing};
 ghost use Rattle.session.specs.Sessions.{held};
 ghost use Rattle.text.specs.Accepted.{Accepts};
-ghost use Rattle.text.specs.Reading.{Gives, closed, line_read, lines_read, reading};
-ghost use Rattle.turns.specs.Turns.{Does};
-ghost use Rattle.text.specs.Turning.{staged, whole_turn};
+ghost use Rattle.text.specs.Reading.{Gives, GivesOrWants, closed, line_holds, line_read, lines_read, may_want, reading, some_held, value_of};
+ghost use Rattle.turns.specs.Turns.{DoesOrWants};
+ghost use Rattle.text.specs.Turning.{SomeFull, staged, whole_turn};
 ghost use Rattle.text.specs.Stages.{is_end};
 ghost use Rattle.words.specs.Pieces.{pieces, split};
 ghost use Rattle.words.specs.Words.{cursor};
@@ -63,7 +63,7 @@ impl Reader {
 
     // A line by its words; true at the end.
     fn whole_turn(&mut self, words: &mut Words<'_>) -> Result<bool, ReadFault>
-        ensures does { Does (λ ended. record { stage = self.new.stage; held = contents_of self.new.draft; ended = ended }) result (cursor words.new) (whole_turn self.old.stage (contents_of self.old.draft) (cursor words.old)) }
+        ensures wants { DoesOrWants (λ ended. record { stage = self.new.stage; held = contents_of self.new.draft; ended = ended }) result (cursor words.new) (whole_turn self.old.stage (contents_of self.old.draft) (cursor words.old)) ((line_holds (value_of (whole_turn self.old.stage (contents_of self.old.draft) (cursor words.old))) ≡ true) × SomeFull self.old.draft) }
         ensures staged { staged self.old.stage (contents_of self.old.draft) ≡ true → IfOk result (λ ended. (staged self.new.stage (contents_of self.new.draft) ≡ true) × (ended ≡ true → ready (contents_of self.new.draft) ≡ true)) }
     {
         let word = words.word()?;
@@ -80,7 +80,7 @@ impl Reader {
     // A line of the text; true at the end. `last` says that no 0A ends it.
     fn read_line(&mut self, line: &[u8], row: usize, last: bool) -> Result<bool, ReadFault>
         requires { length line.now ≤ 16384 }
-        ensures does { Gives (λ ended. record { stage = self.new.stage; held = contents_of self.new.draft; ended = ended }) result (line_read row self.old.stage (contents_of self.old.draft) line.now last) }
+        ensures wants { GivesOrWants (λ ended. record { stage = self.new.stage; held = contents_of self.new.draft; ended = ended }) result (line_read row self.old.stage (contents_of self.old.draft) line.now last) ((line_holds (line_read row self.old.stage (contents_of self.old.draft) line.now last) ≡ true) × SomeFull self.old.draft) }
         ensures staged { staged self.old.stage (contents_of self.old.draft) ≡ true → IfOk result (λ ended. (staged self.new.stage (contents_of self.new.draft) ≡ true) × (ended ≡ true → ready (contents_of self.new.draft) ≡ true)) }
     {
         check_bytes(line, row, last)?;
@@ -92,7 +92,7 @@ impl Reader {
     // All lines of a text.
     fn read_lines(&mut self, text: &[u8]) -> Result<(), ReadFault>
         requires { length text.now ≤ 16384 }
-        ensures does { Gives (λ _. contents_of self.new.draft) result (lines_read 1 self.old.stage (contents_of self.old.draft) (split 10 text.now)) }
+        ensures wants { GivesOrWants (λ _. contents_of self.new.draft) result (lines_read 1 self.old.stage (contents_of self.old.draft) (split 10 text.now)) (some_held 1 self.old.stage (contents_of self.old.draft) (split 10 text.now) ≡ true) }
         ensures ready { staged self.old.stage (contents_of self.old.draft) ≡ true → OnOk result (ready (contents_of self.new.draft) ≡ true) }
     {
         let mut lines = Pieces::new(text, b'\n');
@@ -114,7 +114,7 @@ impl Reader {
 // Reads a text of at most 16,384 bytes.
 fn read_short(text: &[u8], session: &mut Session, heap: Global) -> Result<(), ReadFault>
     requires { length text.now ≤ 16384 }
-    ensures does { Gives (λ _. contents (held session.new)) result (lines_read 1 Head no_contents (split 10 text.now)) }
+    ensures wants { GivesOrWants (λ _. contents (held session.new)) result (lines_read 1 Head no_contents (split 10 text.now)) (some_held 1 Head no_contents (split 10 text.now) ≡ true) }
     ensures refused { OnErr result (held session.new ≡ held session.old) }
 {
     let mut reader = Reader::new(heap);
@@ -125,7 +125,7 @@ fn read_short(text: &[u8], session: &mut Session, heap: Global) -> Result<(), Re
 
 // Reads a text by the definition of reading.
 fn read_text(text: &[u8], session: &mut Session, heap: Global) -> Result<(), ReadFault>
-    ensures does { Gives (λ _. contents (held session.new)) result (reading text.now) }
+    ensures wants { GivesOrWants (λ _. contents (held session.new)) result (reading text.now) (may_want text.now ≡ true) }
     ensures refused { OnErr result (held session.new ≡ nothing) }
 {
     *session = Session::empty(heap);
@@ -136,10 +136,12 @@ fn read_text(text: &[u8], session: &mut Session, heap: Global) -> Result<(), Rea
 }
 
 // Reads a session text. The session then holds what the text says; where the text is refused or memory lacks, it is the
-// empty session. The texts that are accepted are the spellings of well-formed scripts.
+// empty session. The texts that are accepted are the spellings of well-formed scripts. Memory is wanted only where the
+// lines are all right up to the first node's.
 pub fn read(text: &[u8], session: &mut Session, heap: Global) -> Result<(), ReadFault>
     ensures does { Gives (λ _. contents (held session.new)) result (reading text.now) }
     ensures refused { OnErr result (held session.new ≡ nothing) }
+    ensures wants { GivesOrWants (λ _. contents (held session.new)) result (reading text.now) (may_want text.now ≡ true) }
     ensures accepts { Accepts result text.now (contents (held session.new)) }
 {
     read_text(text, session, heap)

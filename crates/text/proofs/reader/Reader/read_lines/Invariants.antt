@@ -2,7 +2,7 @@ use Rattle.std.proofs.Common.{◌≡◌, ◌+◌, ◌-◌, ◌≤◌, true}
 use Rattle.session.specs.Drafts.{draft}
 use Rattle.text.proofs.reader.Reader.read_lines.Given as goal
 use Rattle.words.specs.Pieces.{pieces, split}
-use Rattle.text.specs.Reading.{lines_read}
+use Rattle.text.specs.Reading.{lines_read, some_held}
 use Rattle.text.specs.Turning.{staged}
 
 abbrev pub invariant-loop-line : goal.invariant-loop-line
@@ -10,6 +10,7 @@ invariant-loop-line l =
     (lines_read l.row l.self.stage (draft l.self.draft) (pieces l.lines) ≡ lines_read 1 l.initial.self.stage (draft l.initial.self.draft) (split 10 l.text))
     × (staged l.initial.self.stage (draft l.initial.self.draft) ≡ true → staged l.self.stage (draft l.self.draft) ≡ true)
     × (l.row ≤ l.lines.at + 1)
+    × (some_held l.row l.self.stage (draft l.self.draft) (pieces l.lines) ≡ true → some_held 1 l.initial.self.stage (draft l.initial.self.draft) (split 10 l.text) ≡ true)
 
 abbrev pub decreases-loop-line : goal.decreases-loop-line
 decreases-loop-line l = 16386 - l.lines.at
