@@ -1,3 +1,5 @@
+ghost use Rattle.std.specs.Prelude.{◌≡◌, replicate, slice_set};
+
 use frames::samples::Frame;
 use wave::parts::TrackPart;
 use wave::reader::{WaveFault, check_parts};
@@ -17,7 +19,9 @@ const WHOLE: TrackPart = TrackPart {
 };
 
 // Eight parts, all empty but for track 5's.
-fn at_five(part: TrackPart) -> [TrackPart; 8] {
+fn at_five(part: TrackPart) -> [TrackPart; 8]
+    ensures { result ≡ slice_set (replicate 8 (record { start = 0; length = 0 })) 5 part }
+{
     let e = TrackPart::EMPTY;
     [e, e, e, e, e, part, e, e]
 }
