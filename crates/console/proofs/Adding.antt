@@ -1,5 +1,5 @@
 -- The lines into a node, one after the other.
-use Rattle.std.proofs.Common.{◌≡◌, ℕ, ◌+◌, ◌<◌, ◌≤◌, Bool, cond, eqb, ltb, List, [], ◌∷◌, ◌++◌, map, length, get_or, ◌+ℤ◌, Some, None, Option, sym, refl, ap, ◌∙◌, subst, arith, length-append}
+use Rattle.std.proofs.Common.{◌≡◌, ℕ, ◌+◌, ◌<◌, ◌≤◌, Bool, cond, eqb, ltb, List, [], ◌∷◌, ◌++◌, map, length, ◌+ℤ◌, Some, None, Option, sym, refl, ap, ◌∙◌, subst, arith, length-append}
 use Rattle.console.proofs.Arranging.{by_ends}
 use Rattle.console.specs.Desks.{desk_plan}
 use Rattle.console.specs.declared.desks.Desk.{Desk}
@@ -9,7 +9,7 @@ use Rattle.frames.specs.declared.samples.Part.{Part}
 use Rattle.frames.specs.declared.sums.Sum.{Sum}
 use Rattle.patch.proofs.Linking.{links_end, links_on}
 use Rattle.patch.specs.Inputs.{first_into, Links, next_after}
-use Rattle.session.specs.Plan.{line, lines_into, Plan}
+use Rattle.session.specs.Plan.{line, lines_into}
 use Rattle.signals.proofs.Lines.{all_lines}
 use Rattle.std.proofs.lemmas.List.FromFn.{length-range_with_len}
 use Rattle.std.proofs.lemmas.List.{append_assoc, append-nil, length-map, length-take-le, map-append}

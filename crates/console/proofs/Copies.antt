@@ -1,5 +1,5 @@
 -- A row copied to the beginning of another.
-use Rattle.std.proofs.Common.{◌≡◌, ℕ, zero, suc, ◌+◌, ◌<◌, ◌≤◌, List, [], ◌∷◌, ◌++◌, length, get_or, take, drop, replicate, sym, refl, ap, ◌∙◌, arith, length-append}
+use Rattle.std.proofs.Common.{◌≡◌, ℕ, zero, suc, ◌+◌, ◌<◌, ◌≤◌, List, [], ◌∷◌, ◌++◌, length, get_or, take, drop, replicate, refl, ap, ◌∙◌, arith, length-append}
 use Rattle.frames.specs.declared.samples.Frame.{Frame}
 use Rattle.patch.proofs.Assembling.{some_node}
 use Rattle.patch.specs.Ours.{OurPatch}

@@ -1,6 +1,5 @@
 -- Buffers filled from the front, and frames one after the other.
-use Rattle.std.proofs.Common.{◌≡◌, ℕ, zero, suc, ◌+◌, ◌<◌, ◌≤◌, List, [], ◌∷◌, ◌++◌, length, drop, set, pos, sym, refl, ap, ◌∙◌, ap₂, arith, length-append}
-use Rattle.frames.specs.declared.samples.Frame.{Frame}
+use Rattle.std.proofs.Common.{◌≡◌, ℕ, zero, suc, ◌+◌, ◌<◌, List, [], ◌∷◌, ◌++◌, length, drop, set, pos, sym, refl, ap, ◌∙◌, arith}
 use Rattle.playing.specs.Tape.{on_tape}
 use Rattle.playing.specs.Work.{after_frames, Deck, frame_work, frames_out}
 use Rattle.reels.specs.Tracks.{Tracks}

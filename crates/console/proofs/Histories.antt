@@ -1,8 +1,8 @@
 -- The promise, by induction over histories.
-use Rattle.std.proofs.Common.{◌≡◌, ℕ, ◌+◌, List, [], ◌++◌, map, length, Ok, Err, Result, sym, refl, ap, ◌∙◌, subst, ap₂, arith}
+use Rattle.std.proofs.Common.{◌≡◌, ℕ, ◌+◌, List, [], ◌++◌, map, length, Ok, Err, Result, sym, refl, ap, subst, ap₂, arith}
 use Rattle.console.proofs.Copies.{rules_of}
 use Rattle.console.specs.Answers.{by_answer}
-use Rattle.console.specs.Calls.{deck_after, next_frames, Played, Rewound, Started, Told}
+use Rattle.console.specs.Calls.{deck_after, next_frames, Played, Rewound, Started}
 use Rattle.console.specs.Desks.{desk_plan}
 use Rattle.console.specs.Histories.{Claim, History}
 use Rattle.console.specs.Histories.History.{begun, started, played, rewound, told}
@@ -11,17 +11,13 @@ use Rattle.console.specs.declared.consoles.Console.{Console}
 use Rattle.console.specs.declared.desks.Desk.{Desk}
 use Rattle.console.specs.declared.faults.ConsoleFault.{ConsoleFault}
 use Rattle.frames.specs.declared.samples.Frame.{Frame}
-use Rattle.patch.specs.Ours.{OurPatch}
-use Rattle.patch.specs.Patches.{delay_of, ordered_nodes}
 use Rattle.playing.proofs.Keeping.{begins, claims, plays_on, rewinds, Stands}
 use Rattle.playing.specs.Tape.{silent_tape}
 use Rattle.playing.specs.Work.{deck, Deck}
 use Rattle.racks.specs.Rack.{RackLaws, rested}
 use Rattle.reels.specs.Tracks.{Tracks}
-use Rattle.session.specs.Plan.{KeepsRules, Plan}
 use Rattle.session.specs.Sessions.{held}
 use Rattle.session.specs.declared.sessions.Session.{Session}
-use Rattle.voices.specs.Meaning.{Meaning}
 
 -- what stands at a point
 abbrev pub StandsAt : Tracks → Point → List Frame → Type 0

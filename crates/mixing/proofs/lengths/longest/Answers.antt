@@ -1,4 +1,4 @@
-use Rattle.std.proofs.Common.{◌≡◌, ℕ, ◌≤◌, max, List, [], ◌∷◌, length, get_or, take, None, sym, ap, ◌∙◌, ap₂, arith}
+use Rattle.std.proofs.Common.{◌≡◌, ◌≤◌, max, List, [], ◌∷◌, get_or, take, None, sym, ap, ◌∙◌, ap₂, arith}
 use Rattle.mixing.proofs.lengths.longest.Goals as goal
 use Rattle.mixing.specs.Lengths.{longest, source_length}
 use Rattle.reels.specs.Tracks.{ReelLaws, Tracks}
@@ -7,7 +7,6 @@ use Rattle.session.specs.declared.nodes.Source.{Source}
 use Rattle.session.specs.declared.nodes.Source.TheVariants.{Bus, Track}
 use Rattle.std.proofs.lemmas.List.{take_all, take_more}
 use Rattle.voices.proofs.Looks.{greatest_push}
-use Rattle.voices.specs.Kinds.{greatest}
 
 first : Node
 first = record { source = Track 0; unit = None }

@@ -1,4 +1,4 @@
-use Rattle.std.proofs.Common.{◌≡◌, [], sym, subst}
+use Rattle.std.proofs.Common.{[], subst}
 use Rattle.console.proofs.Histories.{keeps}
 use Rattle.console.proofs.consoles.Console.start.Goals as goal
 use Rattle.console.specs.Calls.{Started}

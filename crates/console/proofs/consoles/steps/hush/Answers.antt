@@ -1,4 +1,4 @@
-use Rattle.std.proofs.Common.{◌≡◌, ◌+◌, ◌++◌, length, drop, set, replicate, sym, ap, ◌∙◌, ap₂, arith}
+use Rattle.std.proofs.Common.{◌≡◌, ◌+◌, ◌++◌, drop, set, replicate, ap, ◌∙◌, ap₂, arith}
 use Rattle.console.proofs.Filling.{set_next}
 use Rattle.console.proofs.consoles.steps.hush.Goals as goal
 use Rattle.frames.specs.Samples.{silence}

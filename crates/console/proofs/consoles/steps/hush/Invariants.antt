@@ -1,4 +1,4 @@
-use Rattle.std.proofs.Common.{◌≡◌, ◌++◌, length, drop, replicate}
+use Rattle.std.proofs.Common.{◌≡◌, ◌++◌, drop, replicate}
 use Rattle.console.proofs.consoles.steps.hush.Given as goal
 use Rattle.frames.specs.Samples.{silence}
 

@@ -1,4 +1,4 @@
-use Rattle.std.proofs.Common.{◌≡◌, ◌<◌, [], pos, Some, sym, ap, ◌∙◌, subst, arith}
+use Rattle.std.proofs.Common.{◌<◌, Some, sym, ap, ◌∙◌, subst, arith}
 use Rattle.console.proofs.Adding.{adds_all, adds_first, Adding, adds_next, is_line}
 use Rattle.console.proofs.Arranging.{by_ends}
 use Rattle.console.proofs.desks.Desk.added.Goals as goal

@@ -1,4 +1,4 @@
-use Rattle.std.proofs.Common.{◌≡◌, ℕ, ◌<◌, length, get_or, sym, refl, ap, ◌∙◌, subst, arith}
+use Rattle.std.proofs.Common.{ℕ, ◌<◌, length, get_or, sym, refl, ap, ◌∙◌, subst, arith}
 use Rattle.console.proofs.Copies.{all_zero}
 use Rattle.console.proofs.desks.Desk.empty.Goals as goal
 

@@ -1,4 +1,4 @@
-use Rattle.std.proofs.Common.{◌≡◌, ◌+◌, ◌≤◌, ◌++◌, length, drop, set, pos, sym, ap, ◌∙◌, ap₂, arith, rules}
+use Rattle.std.proofs.Common.{◌≡◌, ◌+◌, ◌++◌, length, drop, set, pos, sym, ap, ◌∙◌, ap₂, arith, rules}
 use Rattle.console.proofs.Filling.{after_more, out_length, out_more, set_next}
 use Rattle.console.proofs.desks.Desk.fill.Goals as goal
 use Rattle.console.specs.Desks.{desk_plan}

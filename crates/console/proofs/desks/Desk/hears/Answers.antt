@@ -1,8 +1,8 @@
-use Rattle.std.proofs.Common.{◌≡◌, map, pos, sym, ap, ◌∙◌}
+use Rattle.std.proofs.Common.{map, pos, sym, ap, ◌∙◌}
 use Rattle.frames.proofs.Totals.{adds_up_to}
 use Rattle.console.proofs.desks.Desk.hears.Goals as goal
 use Rattle.console.specs.Desks.{desk_plan}
-use Rattle.patch.specs.Patches.{delay_of, ordered_nodes}
+use Rattle.patch.specs.Patches.{delay_of}
 use Rattle.playing.specs.Tape.{on_tape}
 use Rattle.session.specs.Plan.{lines_into}
 use Rattle.session.specs.declared.nodes.Node.{Node}

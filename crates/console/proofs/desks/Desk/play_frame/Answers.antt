@@ -1,4 +1,4 @@
-use Rattle.std.proofs.Common.{◌≡◌, ◌<◌, length, get_or, take, sym, ap, ◌∙◌, subst, ap₂, arith, rules}
+use Rattle.std.proofs.Common.{◌≡◌, ◌<◌, length, get_or, sym, ap, ◌∙◌, ap₂, arith, rules}
 use Rattle.console.proofs.desks.Desk.play_frame.Goals as goal
 use Rattle.console.specs.Desks.{desk_plan}
 use Rattle.patch.specs.Patches.{delay_of, ordered_nodes}

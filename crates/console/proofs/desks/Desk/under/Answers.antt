@@ -1,11 +1,10 @@
-use Rattle.std.proofs.Common.{◌≡◌, ℕ, ◌<◌, ◌≤◌, List, ◌++◌, length, get_or, take, drop, replicate, sym, refl, ap, ◌∙◌, subst, ap₂, arith}
-use Rattle.console.proofs.Copies.{copied_at, copied_front, copied_length, copied_zeros, rules_of}
+use Rattle.std.proofs.Common.{◌≡◌, ℕ, ◌<◌, ◌≤◌, List, ◌++◌, length, get_or, take, drop, sym, refl, ap, ◌∙◌, subst, ap₂, arith}
+use Rattle.console.proofs.Copies.{copied_front, copied_length, copied_zeros, rules_of}
 use Rattle.console.proofs.desks.Desk.under.Goals as goal
 use Rattle.console.specs.Plans.{no_line}
 use Rattle.patch.specs.Inputs.{Arranges}
-use Rattle.patch.specs.Patches.{delay_of, delays, ordered_nodes}
+use Rattle.patch.specs.Patches.{delays}
 use Rattle.playing.proofs.Keeping.{in_order}
-use Rattle.session.specs.Plan.{line}
 use Rattle.session.specs.Sessions.{held}
 use Rattle.session.specs.declared.nodes.Line.{Line}
 use Rattle.std.proofs.lemmas.List.{get_or-take}
