@@ -44,23 +44,30 @@ module _ (row : ℕ) (st : Stage) (c : Contents) (l : List ℕ) (ls : List (List
   unfolding some_held
   held_later t h n s = ap (λ r. held_by_then r (λ t. some_held (row + 1) t.stage t.held ls)) h ∙ or_right (has_held t) _ (and_from (not t.ended) _ (ap not n) s)
 
-pub gives_err : {T X : Type 0} (f : T → X) (r : Result T ReadFault) (spec : Result X ReadFault) (May : Type 0) (e : ReadFault) → r ≡ Err e → (spec ≡ Err e) ⊎ ((e ≡ NoMemory) × May) → GivesOrWants f r spec May
-gives_err f r spec May e h g = subst (λ r. GivesOrWants f r spec May) (sym h) g
+pub wants_err : {T X : Type 0} (f : T → X) (r : Result T ReadFault) (spec : Result X ReadFault) (May : Type 0) (e : ReadFault) → r ≡ Err e → (spec ≡ Err e) ⊎ ((e ≡ NoMemory) × May) → GivesOrWants f r spec May
+wants_err f r spec May e h g = subst (λ r. GivesOrWants f r spec May) (sym h) g
 
 -- what does not want memory does what the definition says
 pub gives_less : {T X : Type 0} (f : T → X) (r : Result T ReadFault) (spec : Result X ReadFault) (May : Type 0) → GivesOrWants f r spec May → Gives f r spec
 gives_less f (Ok t) spec May g = g
 gives_less f (Err e) spec May g = λ m. ⊎_elim (λ h. h) (λ p. absurd (false≢true (sym m ∙ ap wants_memory p.0))) g
 
+pub gives_err : {T X : Type 0} (f : T → X) (r : Result T ReadFault) (spec : Result X ReadFault) (e : ReadFault) → r ≡ Err e → (wants_memory e ≡ false → spec ≡ Err e) → Gives f r spec
+gives_err f r spec e h g = subst (λ r. Gives f r spec) (sym h) g
+
 pub made_always : {T E : Type 0} (r : Result T E) (P : Type 0) → P → IfOk r (λ _. P)
 made_always (Ok x) P h = h
 made_always (Err e) P h = tt
 
 -- what `close` promises
-pub gives_closed : (row : ℕ) (ls : List (List ℕ)) (c : Contents) (r : Result (Unit {0}) ReadFault) (spec : Result Contents ReadFault) (May : Type 0)
+pub wants_closed : (row : ℕ) (ls : List (List ℕ)) (c : Contents) (r : Result (Unit {0}) ReadFault) (spec : Result Contents ReadFault) (May : Type 0)
     → r ≡ closed row ls tt → spec ≡ closed row ls c → GivesOrWants (λ _. c) r spec May
-gives_closed row ls c r spec May e h = subst (λ r. GivesOrWants (λ _. c) r spec May) (sym e) (subst (λ s. GivesOrWants (λ _. c) (closed row ls tt) s May) (sym h) (go (nothing_follows ls)))
+wants_closed row ls c r spec May e h = subst (λ r. GivesOrWants (λ _. c) r spec May) (sym e) (subst (λ s. GivesOrWants (λ _. c) (closed row ls tt) s May) (sym h) (go (nothing_follows ls)))
   where
     go : (b : Bool) → GivesOrWants (λ (_ : Unit {0}). c) (cond b (Ok tt) (Err (Rest (record { line = row + 1; column = 1 })))) (cond b (Ok c) (Err (Rest (record { line = row + 1; column = 1 })))) May
     go true = refl
     go false = inl refl
+
+pub gives_closed : (row : ℕ) (ls : List (List ℕ)) (c : Contents) (r : Result (Unit {0}) ReadFault) (spec : Result Contents ReadFault)
+    → r ≡ closed row ls tt → spec ≡ closed row ls c → Gives (λ _. c) r spec
+gives_closed row ls c r spec e h = gives_less (λ _. c) r spec ⊥ (wants_closed row ls c r spec ⊥ e h)

@@ -5,7 +5,7 @@ ghost use Rattle.session.specs.Held.{nothing};
 ghost use Rattle.session.specs.Sessions.{held};
 ghost use Rattle.text.specs.Accepted.{Accepts};
 ghost use Rattle.text.specs.Reading.{Gives, GivesOrWants, closed, line_holds, line_read, lines_read, may_want, reading, some_held, value_of};
-ghost use Rattle.turns.specs.Turns.{DoesOrWants};
+ghost use Rattle.turns.specs.Turns.{Does, DoesOrWants};
 ghost use Rattle.text.specs.Turning.{SomeFull, staged, whole_turn};
 ghost use Rattle.text.specs.Stages.{is_end};
 ghost use Rattle.words.specs.Pieces.{pieces, split};
@@ -63,8 +63,9 @@ impl Reader {
 
     // A line by its words; true at the end.
     fn whole_turn(&mut self, words: &mut Words<'_>) -> Result<bool, ReadFault>
-        ensures wants { DoesOrWants (λ ended. record { stage = self.new.stage; held = contents_of self.new.draft; ended = ended }) result (cursor words.new) (whole_turn self.old.stage (contents_of self.old.draft) (cursor words.old)) ((line_holds (value_of (whole_turn self.old.stage (contents_of self.old.draft) (cursor words.old))) ≡ true) × SomeFull self.old.draft) }
+        ensures does { Does (λ ended. record { stage = self.new.stage; held = contents_of self.new.draft; ended = ended }) result (cursor words.new) (whole_turn self.old.stage (contents_of self.old.draft) (cursor words.old)) }
         ensures staged { staged self.old.stage (contents_of self.old.draft) ≡ true → IfOk result (λ ended. (staged self.new.stage (contents_of self.new.draft) ≡ true) × (ended ≡ true → ready (contents_of self.new.draft) ≡ true)) }
+        ensures wants { DoesOrWants (λ ended. record { stage = self.new.stage; held = contents_of self.new.draft; ended = ended }) result (cursor words.new) (whole_turn self.old.stage (contents_of self.old.draft) (cursor words.old)) ((line_holds (value_of (whole_turn self.old.stage (contents_of self.old.draft) (cursor words.old))) ≡ true) × SomeFull self.old.draft) }
     {
         let word = words.word()?;
         let first = first_of(&word);
@@ -80,8 +81,9 @@ impl Reader {
     // A line of the text; true at the end. `last` says that no 0A ends it.
     fn read_line(&mut self, line: &[u8], row: usize, last: bool) -> Result<bool, ReadFault>
         requires { length line.now ≤ 16384 }
-        ensures wants { GivesOrWants (λ ended. record { stage = self.new.stage; held = contents_of self.new.draft; ended = ended }) result (line_read row self.old.stage (contents_of self.old.draft) line.now last) ((line_holds (line_read row self.old.stage (contents_of self.old.draft) line.now last) ≡ true) × SomeFull self.old.draft) }
+        ensures does { Gives (λ ended. record { stage = self.new.stage; held = contents_of self.new.draft; ended = ended }) result (line_read row self.old.stage (contents_of self.old.draft) line.now last) }
         ensures staged { staged self.old.stage (contents_of self.old.draft) ≡ true → IfOk result (λ ended. (staged self.new.stage (contents_of self.new.draft) ≡ true) × (ended ≡ true → ready (contents_of self.new.draft) ≡ true)) }
+        ensures wants { GivesOrWants (λ ended. record { stage = self.new.stage; held = contents_of self.new.draft; ended = ended }) result (line_read row self.old.stage (contents_of self.old.draft) line.now last) ((line_holds (line_read row self.old.stage (contents_of self.old.draft) line.now last) ≡ true) × SomeFull self.old.draft) }
     {
         check_bytes(line, row, last)?;
         check_spaces(line, row)?;
@@ -92,8 +94,9 @@ impl Reader {
     // All lines of a text.
     fn read_lines(&mut self, text: &[u8]) -> Result<(), ReadFault>
         requires { length text.now ≤ 16384 }
-        ensures wants { GivesOrWants (λ _. contents_of self.new.draft) result (lines_read 1 self.old.stage (contents_of self.old.draft) (split 10 text.now)) (some_held 1 self.old.stage (contents_of self.old.draft) (split 10 text.now) ≡ true) }
+        ensures does { Gives (λ _. contents_of self.new.draft) result (lines_read 1 self.old.stage (contents_of self.old.draft) (split 10 text.now)) }
         ensures ready { staged self.old.stage (contents_of self.old.draft) ≡ true → OnOk result (ready (contents_of self.new.draft) ≡ true) }
+        ensures wants { GivesOrWants (λ _. contents_of self.new.draft) result (lines_read 1 self.old.stage (contents_of self.old.draft) (split 10 text.now)) (some_held 1 self.old.stage (contents_of self.old.draft) (split 10 text.now) ≡ true) }
     {
         let mut lines = Pieces::new(text, b'\n');
         let mut row = 1;
@@ -114,8 +117,9 @@ impl Reader {
 // Reads a text of at most 16,384 bytes.
 fn read_short(text: &[u8], session: &mut Session, heap: Global) -> Result<(), ReadFault>
     requires { length text.now ≤ 16384 }
-    ensures wants { GivesOrWants (λ _. contents (held session.new)) result (lines_read 1 Head no_contents (split 10 text.now)) (some_held 1 Head no_contents (split 10 text.now) ≡ true) }
+    ensures does { Gives (λ _. contents (held session.new)) result (lines_read 1 Head no_contents (split 10 text.now)) }
     ensures refused { OnErr result (held session.new ≡ held session.old) }
+    ensures wants { GivesOrWants (λ _. contents (held session.new)) result (lines_read 1 Head no_contents (split 10 text.now)) (some_held 1 Head no_contents (split 10 text.now) ≡ true) }
 {
     let mut reader = Reader::new(heap);
     reader.read_lines(text)?;
@@ -125,8 +129,9 @@ fn read_short(text: &[u8], session: &mut Session, heap: Global) -> Result<(), Re
 
 // Reads a text by the definition of reading.
 fn read_text(text: &[u8], session: &mut Session, heap: Global) -> Result<(), ReadFault>
-    ensures wants { GivesOrWants (λ _. contents (held session.new)) result (reading text.now) (may_want text.now ≡ true) }
+    ensures does { Gives (λ _. contents (held session.new)) result (reading text.now) }
     ensures refused { OnErr result (held session.new ≡ nothing) }
+    ensures wants { GivesOrWants (λ _. contents (held session.new)) result (reading text.now) (may_want text.now ≡ true) }
 {
     *session = Session::empty(heap);
     if text.len() > 16384 {

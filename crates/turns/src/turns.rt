@@ -45,9 +45,10 @@ fn trim_layer(
     words: &mut Words<'_>,
 ) -> Result<(), ReadFault>
     requires { is_set (contents_of draft.old) s ≡ true }
-    ensures exact { paired (λ _. contents_of draft.new) result (cursor words.new) ≡ trim_form (contents_of draft.old) s (item word.now) (cursor words.old) }
+    ensures does { Does (λ _. contents_of draft.new) result (cursor words.new) (trim_form (contents_of draft.old) s (item word.now) (cursor words.old)) }
     ensures rate { OnOk result ((contents_of draft.new).rate ≡ (contents_of draft.old).rate) }
     ensures nodes { OnOk result ((contents_of draft.new).nodes ≡ (contents_of draft.old).nodes) }
+    ensures exact { paired (λ _. contents_of draft.new) result (cursor words.new) ≡ trim_form (contents_of draft.old) s (item word.now) (cursor words.old) }
     ensures stays { OnErr result (contents_of draft.new ≡ contents_of draft.old) }
 {
     if draft.has_trim(s) {
@@ -66,9 +67,10 @@ fn bypass_layer(
     words: &mut Words<'_>,
 ) -> Result<(), ReadFault>
     requires { is_set (contents_of draft.old) s ≡ true }
-    ensures exact { paired (λ _. contents_of draft.new) result (cursor words.new) ≡ bypass_form (contents_of draft.old) s (item word.now) (cursor words.old) }
+    ensures does { Does (λ _. contents_of draft.new) result (cursor words.new) (bypass_form (contents_of draft.old) s (item word.now) (cursor words.old)) }
     ensures rate { OnOk result ((contents_of draft.new).rate ≡ (contents_of draft.old).rate) }
     ensures nodes { OnOk result ((contents_of draft.new).nodes ≡ (contents_of draft.old).nodes) }
+    ensures exact { paired (λ _. contents_of draft.new) result (cursor words.new) ≡ bypass_form (contents_of draft.old) s (item word.now) (cursor words.old) }
     ensures stays { OnErr result (contents_of draft.new ≡ contents_of draft.old) }
 {
     if draft.has_bypass(s) {
@@ -86,9 +88,10 @@ fn given_layer(
     words: &mut Words<'_>,
 ) -> Result<(), ReadFault>
     requires { is_set (contents_of draft.old) s ≡ true }
-    ensures exact { paired (λ _. contents_of draft.new) result (cursor words.new) ≡ given_layer (contents_of draft.old) s (item word.now) (cursor words.old) }
+    ensures does { Does (λ _. contents_of draft.new) result (cursor words.new) (given_layer (contents_of draft.old) s (item word.now) (cursor words.old)) }
     ensures rate { OnOk result ((contents_of draft.new).rate ≡ (contents_of draft.old).rate) }
     ensures nodes { OnOk result ((contents_of draft.new).nodes ≡ (contents_of draft.old).nodes) }
+    ensures exact { paired (λ _. contents_of draft.new) result (cursor words.new) ≡ given_layer (contents_of draft.old) s (item word.now) (cursor words.old) }
     ensures stays { OnErr result (contents_of draft.new ≡ contents_of draft.old) }
 {
     if word.is(b"trim") {

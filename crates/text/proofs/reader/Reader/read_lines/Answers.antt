@@ -2,7 +2,7 @@ use Rattle.std.proofs.Common.{◌≡◌, true, Err, sym, ap, ◌∙◌, inl, inr
 use Rattle.session.specs.Contents.{ready}
 use Rattle.session.specs.Drafts.{draft}
 use Rattle.std.proofs.lemmas.Result.{err_from_is_err_and, IfOk-from_err}
-use Rattle.text.proofs.Lines.{gives_closed, gives_err, held_later, held_now, lines_end, lines_err, lines_more, lines_none, made_always}
+use Rattle.text.proofs.Lines.{gives_closed, gives_err, held_later, held_now, lines_end, lines_err, lines_more, lines_none, made_always, wants_closed, wants_err}
 use Rattle.text.proofs.reader.Reader.read_lines.Goals as goal
 use Rattle.words.specs.Pieces.{pieces}
 use Rattle.text.specs.Reading.{line_holds, line_read, lines_read, some_held}
@@ -14,7 +14,10 @@ returns-in_err-ended c =
     let st = c.loop-line.self.stage in
     let d = draft c.loop-line.self.draft in
     record {
-      wants = gives_err _ c.from_residual.result _ _ c.in_err-ended.field-0.0 (p.1 ∙ ap Err p.2) (⊎_elim
+      does = gives_err _ c.from_residual.result _ c.in_err-ended.field-0.0 (p.1 ∙ ap Err p.2)
+          (λ m. sym c.loop-line.invariant.0 ∙ ap (lines_read row st d) c.in-Some.ensures.cut.0
+          ∙ lines_err row st d c.in-Some.line.now (pieces c.next.new.self) _ (ap (line_read row st d c.in-Some.line.now) (sym c.is_done.ensures) ∙ c.in_err-ended.ensures.does m));
+      wants = wants_err _ c.from_residual.result _ _ c.in_err-ended.field-0.0 (p.1 ∙ ap Err p.2) (⊎_elim
           (λ h. inl (sym c.loop-line.invariant.0 ∙ ap (lines_read row st d) c.in-Some.ensures.cut.0
           ∙ lines_err row st d c.in-Some.line.now (pieces c.next.new.self) _ (ap (line_read row st d c.in-Some.line.now) (sym c.is_done.ensures) ∙ h)))
           (λ q. inr (
@@ -32,10 +35,11 @@ returns-then-ended c =
     let st = c.loop-line.self.stage in
     let d = draft c.loop-line.self.draft in
     let h = c.in_ok-ended.ensures in
+    let all = sym c.loop-line.invariant.0 ∙ ap (lines_read row st d) c.in-Some.ensures.cut.0
+    ∙ lines_end row st d c.in-Some.line.now (pieces c.next.new.self) _ (ap (line_read row st d c.in-Some.line.now) (sym c.is_done.ensures) ∙ h.does) c.if-ended.true in
     record {
-      wants = gives_closed row (pieces c.next.new.self) (draft c.read_line.new.self.draft) c.close.result _ _ c.close.ensures
-          (sym c.loop-line.invariant.0 ∙ ap (lines_read row st d) c.in-Some.ensures.cut.0
-          ∙ lines_end row st d c.in-Some.line.now (pieces c.next.new.self) _ (ap (line_read row st d c.in-Some.line.now) (sym c.is_done.ensures) ∙ h.wants) c.if-ended.true);
+      does = gives_closed row (pieces c.next.new.self) (draft c.read_line.new.self.draft) c.close.result _ c.close.ensures all;
+      wants = wants_closed row (pieces c.next.new.self) (draft c.read_line.new.self.draft) c.close.result _ _ c.close.ensures all;
       ready = λ s. made_always c.close.result (ready (draft c.read_line.new.self.draft) ≡ true) ((h.staged (c.loop-line.invariant.1 s)).1 c.if-ended.true);
     }
 
@@ -48,11 +52,11 @@ loop-line-preserved c =
     let e = c.in-Some.ensures.cut in
     let i = c.loop-line.invariant.2 in (
       sym (ap (lines_read row st d) e.0
-          ∙ lines_more row st d c.in-Some.line.now (pieces c.next.new.self) _ (ap (line_read row st d c.in-Some.line.now) (sym c.is_done.ensures) ∙ h.wants) c.if-ended.false) ∙ c.loop-line.invariant.0,
+          ∙ lines_more row st d c.in-Some.line.now (pieces c.next.new.self) _ (ap (line_read row st d c.in-Some.line.now) (sym c.is_done.ensures) ∙ h.does) c.if-ended.false) ∙ c.loop-line.invariant.0,
       λ s. (h.staged (c.loop-line.invariant.1 s)).0,
       omega (arith, e.1),
       λ s. c.loop-line.invariant.3 (ap (some_held row st d) e.0
-          ∙ held_later row st d c.in-Some.line.now (pieces c.next.new.self) _ (ap (line_read row st d c.in-Some.line.now) (sym c.is_done.ensures) ∙ h.wants) c.if-ended.false s),
+          ∙ held_later row st d c.in-Some.line.now (pieces c.next.new.self) _ (ap (line_read row st d c.in-Some.line.now) (sym c.is_done.ensures) ∙ h.does) c.if-ended.false s),
     )
 
 pub returns : goal.returns
@@ -60,7 +64,9 @@ returns c =
     let row = c.loop-line.row in
     let st = c.loop-line.self.stage in
     let d = draft c.loop-line.self.draft in
+    let none = sym c.loop-line.invariant.0 ∙ ap (lines_read row st d) c.in_default.ensures.cut ∙ lines_none row st d in
     record {
-      wants = inl (sym c.loop-line.invariant.0 ∙ ap (lines_read row st d) c.in_default.ensures.cut ∙ lines_none row st d);
+      does = λ _. none;
+      wants = inl none;
       ready = λ _. tt;
     }
