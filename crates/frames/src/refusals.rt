@@ -22,6 +22,19 @@ pub struct Refusal {
     pub second: usize,
 }
 
+impl Refusal {
+    pub fn new(number: u8, layer: Layer, first: usize, second: usize) -> Refusal
+        ensures { result ≡ record { number = number; layer = layer; first = first; second = second } }
+    {
+        Refusal {
+            number,
+            layer,
+            first,
+            second,
+        }
+    }
+}
+
 impl fmt::Display for Layer {
     ghost output = { λ l. Some (layer_name l) };
 
@@ -39,10 +52,12 @@ impl fmt::Display for Refusal {
     ghost output = { λ r. Some (refused_line r) };
 
     fn fmt<W: fmt::Write>(&self, f: &mut fmt::Formatter<W>) -> fmt::Result {
-        let number = self.number;
-        let layer = self.layer;
-        let first = self.first;
-        let second = self.second;
+        let Refusal {
+            number,
+            layer,
+            first,
+            second,
+        } = *self;
         write!(f, "refused {number} {layer} {first} {second}")
     }
 }

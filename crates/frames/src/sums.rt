@@ -1,8 +1,12 @@
-ghost use Rattle.std.specs.Prelude.{◌≡◌, ◌+◌, ◌*◌, ◌<◌, ◌≤◌, pos, ◌+ℤ◌, if◌then◌else◌, nat_lt, unsigned_abs};
+ghost use Rattle.std.specs.Prelude.{◌≡◌, ◌+◌, ◌*◌, ◌<◌, ◌≤◌, pos, ◌+ℤ◌, if◌then◌else◌, is_ok, nat_lt, unsigned_abs};
 ghost use Rattle.frames.specs.Buses.{left_of, right_of};
 ghost use Rattle.frames.specs.Samples.{clamped};
 
 use crate::samples::{Frame, Part, clamp, scale};
+
+// A bus has 48 lines already.
+#[derive(Clone, Copy, PartialEq, Eq, Debug)]
+pub struct BusFull;
 
 // A bus's sum on its way: on each side the scaled samples so far, added exactly. It takes at most 48 lines.
 #[derive(Clone, Copy)]
@@ -40,18 +44,18 @@ impl Sum {
         self.lines += 1;
     }
 
-    // One line's frame more; false, and nothing is added, where there are 48 already.
-    pub fn add(&mut self, part: Part) -> bool
-        ensures room { result ≡ nat_lt self.old.lines 48 }
-        ensures left { self.new.left ≡ (if result then self.old.left +ℤ left_of part else self.old.left) }
-        ensures right { self.new.right ≡ (if result then self.old.right +ℤ right_of part else self.old.right) }
-        ensures lines { self.new.lines ≡ (if result then self.old.lines + 1 else self.old.lines) }
+    // One line's frame more; nothing is added where there are 48 already.
+    pub fn add(&mut self, part: Part) -> Result<(), BusFull>
+        ensures room { is_ok result ≡ nat_lt self.old.lines 48 }
+        ensures left { self.new.left ≡ (if is_ok result then self.old.left +ℤ left_of part else self.old.left) }
+        ensures right { self.new.right ≡ (if is_ok result then self.old.right +ℤ right_of part else self.old.right) }
+        ensures lines { self.new.lines ≡ (if is_ok result then self.old.lines + 1 else self.old.lines) }
     {
         if self.lines >= 48 {
-            return false;
+            return Err(BusFull);
         }
         self.take(part);
-        true
+        Ok(())
     }
 
     // The bus's frame: each side clamped, once.

@@ -1,5 +1,6 @@
 use Rattle.std.proofs.Common.{◌<◌, length, take, pos, arith}
 use Rattle.frames.proofs.Totals.{adds_one}
+use Rattle.std.specs.Prelude.{is_ok}
 use Rattle.frames.proofs.buses.added.Goals as goal
 use Rattle.frames.specs.declared.samples.Part.{Part}
 use Rattle.std.proofs.lemmas.List.{length-take, take_all, take_more}
@@ -15,7 +16,7 @@ loop-part-preserved c =
     let i = c.loop-part.part-index in
     let few : length (take i parts) < 48 = simp length-take (omega arith) in
     rw (take_more parts i no_part c.loop-part-test.true)
-    (adds_one c.loop-part.sum c.add.new.self (take i parts) _ c.add.result c.loop-part.invariant few h.room h.left h.right h.lines)
+    (adds_one c.loop-part.sum c.add.new.self (take i parts) _ (is_ok c.add.result) c.loop-part.invariant few h.room h.left h.right h.lines)
 
 pub returns : goal.returns
 returns c =
