@@ -1,3 +1,4 @@
+use Rattle.std.specs.Prelude.{is_ok}
 use Rattle.std.proofs.Common.{◌≡◌, ◌<◌, map, length, pos, arith}
 use Rattle.frames.proofs.Totals.{adds_one}
 use Rattle.reels.proofs.unity.added.Goals as goal
@@ -11,7 +12,7 @@ loop-track-preserved g c =
     let h = c.add.ensures in
     let n = c.loop-track.track in
     let few : length (map make (range_with_len 0 n)) < 48 = simp length-map-range_with_len (omega arith) in
-    let one = adds_one c.loop-track.sum c.add.new.self (map make (range_with_len 0 n)) (record { frame = c.frame-frame.result; gain = pos 16384 }) c.add.result c.loop-track.invariant few h.room h.left h.right h.lines in
+    let one = adds_one c.loop-track.sum c.add.new.self (map make (range_with_len 0 n)) (record { frame = c.frame-frame.result; gain = pos 16384 }) (is_ok c.add.result) c.loop-track.invariant few h.room h.left h.right h.lines in
     rw (map-range_with_len_more make 0 n n (omega arith)) (rw c.frame-frame.ensures at one)
 
 pub returns : goal.returns

@@ -1,3 +1,4 @@
+use Rattle.std.specs.Prelude.{is_ok}
 use Rattle.std.proofs.Common.{◌<◌, Some, sym, ap, ◌∙◌, subst, arith}
 use Rattle.console.proofs.Adding.{adds_all, adds_first, Adding, adds_next, is_line}
 use Rattle.console.proofs.Arranging.{by_ends}
@@ -29,7 +30,7 @@ loop-at-preserved c =
     let d = c.args.self.now in
     let h = c.add.ensures in
     subst (Adding d _ c.args.v c.add.new.self) (sym (c.next_after-at.ensures ∙ ap (next_after d.patch.inputs) c.from-in-Some.ensures))
-    (adds_next d _ c.args.v c.loop-at.sum c.add.new.self c.add.result c.loop-at.at c.in-Some.i c.part.result
+    (adds_next d _ c.args.v c.loop-at.sum c.add.new.self (is_ok c.add.result) c.loop-at.at c.in-Some.i c.part.result
     c.in-Some.is c.part.ensures c.loop-at.invariant h.room h.left h.right h.lines)
 
 pub returns : goal.returns

@@ -1,3 +1,4 @@
+use Rattle.std.specs.Prelude.{is_ok}
 use Rattle.std.proofs.Common.{◌<◌, ◌≤◌, [], ◌∷◌, ◌++◌, map, length, get_or, take, pos, sym, ap, ◌∙◌, subst, arith}
 use Rattle.frames.proofs.Totals.{adds_one, AddsUp}
 use Rattle.playing.proofs.Inward.{desk_into}
@@ -20,7 +21,7 @@ loop-j-preserved c =
     let most = desk_into d v c.requires.node in
     let within : j < length inward = subst (λ k. j < k) (ap (λ i. get_or d.counts i 0) c.from.ensures ∙ count) c.loop-j-test.true in
     let few : length (map make (take j inward)) < 48 = simp (length-map, length-take) (omega arith) in
-    let one = adds_one c.loop-j.sum c.add.new.self (map make (take j inward)) c.part.result c.add.result c.loop-j.invariant few h.room h.left h.right h.lines in
+    let one = adds_one c.loop-j.sum c.add.new.self (map make (take j inward)) c.part.result (is_ok c.add.result) c.loop-j.invariant few h.room h.left h.right h.lines in
     subst (AddsUp c.add.new.self) (ap (λ part. map make (take j inward) ++ part ∷ []) (c.part.ensures ∙ ap make c.line_into-i.ensures.number) ∙ sym (map_more make inward j 0 within)) one
 
 pub returns : goal.returns
