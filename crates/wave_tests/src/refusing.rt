@@ -1,38 +1,22 @@
 use frames::refusals::{Fault, Layer, Refusal};
 use frames::samples::Frame;
 use session::sessions::Session;
-use std::test::Fail;
 use wave::parts::TrackPart;
 use wave::reader::WaveFault;
 use wave::reel::WaveReel;
 use wave::writer::{WriteFault, write_file, write_head};
 
-fn told(number: u8, layer: Layer, first: usize, second: usize) -> Refusal {
-    Refusal {
-        number,
-        layer,
-        first,
-        second,
-    }
-}
-
 #[test]
-fn the_empty_session_has_no_reel(rt: HostRuntime) -> Result<(), Fail> {
+fn the_empty_session_has_no_reel(rt: HostRuntime) {
     let session = Session::empty(rt.alloc());
     let parts = [TrackPart {
         start: 9,
         length: 9,
     }; 8];
-    match WaveReel::open(&session, b"RIFF", parts) {
-        Ok(_) => {
-            assert!(rt; false);
-            Ok(())
-        },
-        Err(fault) => {
-            assert_eq!(rt; fault, WaveFault::NoNode);
-            Ok(())
-        },
-    }
+    assert_eq!(rt;
+        WaveReel::open(&session, b"RIFF", parts).err(),
+        Some(WaveFault::NoNode)
+    );
 }
 
 #[test]
@@ -52,24 +36,36 @@ fn the_empty_session_writes_nothing(rt: HostRuntime) {
 
 #[test]
 fn each_writers_fault_has_its_record(rt: HostRuntime) {
-    assert_eq!(rt; WriteFault::NoNode.refusal(), told(19, Layer::Patch, 0, 0));
-    assert_eq!(rt; WriteFault::TooLong.refusal(), told(27, Layer::Play, 0, 0));
+    assert_eq!(rt;
+        WriteFault::NoNode.refusal(),
+        Refusal::new(19, Layer::Patch, 0, 0)
+    );
+    assert_eq!(rt;
+        WriteFault::TooLong.refusal(),
+        Refusal::new(27, Layer::Play, 0, 0)
+    );
     assert_eq!(rt;
         WriteFault::BufferLength.refusal(),
-        told(26, Layer::Play, 0, 0)
+        Refusal::new(26, Layer::Play, 0, 0)
     );
 }
 
 #[test]
 fn each_readers_fault_has_its_record(rt: HostRuntime) {
-    assert_eq!(rt; WaveFault::NoNode.refusal(), told(19, Layer::Patch, 0, 0));
+    assert_eq!(rt;
+        WaveFault::NoNode.refusal(),
+        Refusal::new(19, Layer::Patch, 0, 0)
+    );
     assert_eq!(rt;
         WaveFault::Outside(3).refusal(),
-        told(18, Layer::Wave, 3, 0)
+        Refusal::new(18, Layer::Wave, 3, 0)
     );
-    assert_eq!(rt; WaveFault::Length(4).refusal(), told(10, Layer::Wave, 4, 0));
+    assert_eq!(rt;
+        WaveFault::Length(4).refusal(),
+        Refusal::new(10, Layer::Wave, 4, 0)
+    );
     assert_eq!(rt;
         WaveFault::Head(7, 43).refusal(),
-        told(11, Layer::Wave, 7, 43)
+        Refusal::new(11, Layer::Wave, 7, 43)
     );
 }
