@@ -10,9 +10,8 @@ use text::reader::read;
 use units::settings::FirSettings;
 
 fn print_fir(rt: &HostRuntime, s: usize, fir: &FirSettings) -> anyhow::Result<()> {
-    let count = fir.count;
-    print!(rt; "unit {s}: fir of {count} taps:")?;
-    for tap in fir.taps.iter().take(usize::from(count)) {
+    print!(rt; "unit {s}: fir of {} taps:", fir.count)?;
+    for tap in fir.taps.iter().take(usize::from(fir.count)) {
         print!(rt; " {tap}")?;
     }
     println!(rt; "")?;
@@ -22,19 +21,12 @@ fn print_fir(rt: &HostRuntime, s: usize, fir: &FirSettings) -> anyhow::Result<()
 fn print_kind(rt: &HostRuntime, s: usize, kind: &Kind) -> anyhow::Result<()> {
     match kind {
         Kind::Fir(fir) => print_fir(rt, s, fir)?,
-        Kind::Limit(limit) => {
-            let lookahead = limit.lookahead;
-            let ceiling = limit.ceiling;
-            println!(rt; "unit {s}: limit, lookahead {lookahead}, ceiling {ceiling}")?;
-        }
-        Kind::Pan(pan) => {
-            let position = pan.position;
-            println!(rt; "unit {s}: pan, position {position}")?;
-        }
-        Kind::Delay(delay) => {
-            let frames = delay.frames;
-            println!(rt; "unit {s}: delay of {frames} frames")?;
-        }
+        Kind::Limit(limit) => println!(rt;
+            "unit {s}: limit, lookahead {}, ceiling {}",
+            limit.lookahead, limit.ceiling
+        )?,
+        Kind::Pan(pan) => println!(rt; "unit {s}: pan, position {}", pan.position)?,
+        Kind::Delay(delay) => println!(rt; "unit {s}: delay of {} frames", delay.frames)?,
     }
     Ok(())
 }
@@ -65,16 +57,13 @@ fn print_node(rt: &HostRuntime, v: usize, node: &Node) -> anyhow::Result<()> {
 }
 
 fn print_line(rt: &HostRuntime, line: &Line) -> anyhow::Result<()> {
-    let start = line.start;
-    let end = line.end;
-    let gain = line.gain;
+    let Line { start, end, gain } = line;
     println!(rt; "line from {start} to {end}, gain {gain}")?;
     Ok(())
 }
 
 fn print_session(rt: &HostRuntime, session: &Session) -> anyhow::Result<()> {
-    let rate = session.rate();
-    println!(rt; "rate {rate}")?;
+    println!(rt; "rate {}", session.rate())?;
     for s in 0..8 {
         print_setting(rt, s, &session.setting(s))?;
     }
@@ -94,8 +83,7 @@ fn run(rt: &HostRuntime) -> anyhow::Result<()> {
     match read(&text, &mut session, rt.alloc()) {
         Ok(()) => print_session(rt, &session),
         Err(fault) => {
-            let refusal = fault.refusal();
-            println!(rt; "{refusal}")?;
+            println!(rt; "{}", fault.refusal())?;
             Ok(())
         }
     }

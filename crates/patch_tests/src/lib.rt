@@ -21,39 +21,36 @@ mod tests {
         Ok(session)
     }
 
-    // What our patch of a session over a rack comes to.
+    // What our patch of a session over a rack comes to: how late each node is, and how long each line is held.
     #[derive(Clone, Copy)]
-    struct Wanted<'a> {
+    struct Made<'a> {
         late: &'a [u16],
         held: &'a [u16],
-        refused: u8,
     }
 
-    fn judged<R: Rack>(
-        rt: &impl Abort,
-        session: &Session,
-        rack: &R,
-        wanted: Wanted<'_>,
-    ) -> Result<(), Fail> {
-        match our_patch(session, rack) {
-            Ok(patch) => {
-                assert!(rt; wanted.refused == 0);
-                assert!(rt; patch.latenesses() == wanted.late);
-                assert!(rt; patch.delays() == wanted.held);
-                Ok(())
+    // The patch is as wanted, or it is refused by the wanted number.
+    fn judged<R: Rack>(rt: &impl Abort, session: &Session, rack: &R, wanted: Result<Made<'_>, u8>) {
+        match (our_patch(session, rack), wanted) {
+            (Ok(patch), Ok(made)) => {
+                assert!(rt; patch.latenesses() == made.late);
+                assert!(rt; patch.delays() == made.held);
             }
-            Err(fault) => {
-                assert!(rt; fault.refusal().number == wanted.refused);
-                Ok(())
-            },
+            (Err(fault), Err(number)) => assert_eq!(rt; fault.refusal().number, number),
+            _ => assert!(rt; false, "only one of them is refused"),
         }
     }
 
     // The same of a text's session over its own rack.
-    fn same(rt: &impl Abort, heap: Global, text: &[u8], wanted: Wanted<'_>) -> Result<(), Fail> {
+    fn same(
+        rt: &impl Abort,
+        heap: Global,
+        text: &[u8],
+        wanted: Result<Made<'_>, u8>,
+    ) -> Result<(), Fail> {
         let session = session(heap, text)?;
         let rack = session_rack(&session);
-        judged(rt, &session, &rack, wanted)
+        judged(rt, &session, &rack, wanted);
+        Ok(())
     }
 
     #[test]
@@ -62,11 +59,10 @@ mod tests {
             &rt,
             rt.alloc(),
             b"session 1 48000\nnode 0 bus\nend\n",
-            Wanted {
+            Ok(Made {
                 late: &[0],
                 held: &[],
-                refused: 0,
-            },
+            }),
         )
     }
 
@@ -78,11 +74,10 @@ mod tests {
             &rt,
             rt.alloc(),
             text,
-            Wanted {
+            Ok(Made {
                 late: &[40, 40, 0, 10],
                 held: &[0, 0, 30],
-                refused: 0,
-            },
+            }),
         )
     }
 
@@ -94,11 +89,10 @@ mod tests {
             &rt,
             rt.alloc(),
             text,
-            Wanted {
+            Ok(Made {
                 late: &[7, 7, 0],
                 held: &[7, 0, 7],
-                refused: 0,
-            },
+            }),
         )
     }
 
@@ -106,16 +100,7 @@ mod tests {
     fn a_loop_cannot_be_placed(rt: HostRuntime) -> Result<(), Fail> {
         let text =
             b"session 1 48000\nnode 0 bus\nnode 1 bus\nnode 2 bus\nline 1 2 1\nline 2 1 1\nline 2 0 1\nend\n";
-        same(
-            &rt,
-            rt.alloc(),
-            text,
-            Wanted {
-                late: &[],
-                held: &[],
-                refused: 21,
-            },
-        )
+        same(&rt, rt.alloc(), text, Err(21))
     }
 
     #[test]
@@ -133,11 +118,10 @@ mod tests {
             &rt,
             rt.alloc(),
             text,
-            Wanted {
+            Ok(Made {
                 late: &late,
                 held: &held,
-                refused: 0,
-            },
+            }),
         )
     }
 }

@@ -3,108 +3,61 @@
 
 #[cfg(test)]
 mod tests {
-    use frames::refusals::Fault;
+    use frames::refusals::{Fault, Layer, Refusal};
     use session::sessions::Session;
     use std::alloc::{AllocError, Global};
     use std::process::Abort;
     use std::test::Fail;
     use text::reader::read;
 
-    // A text with the number and the place of its refusal; 0 for a text that is accepted.
+    // A text with its refusal, or none where it is accepted.
     #[derive(Drop)]
     struct Case {
         text: &'static str,
-        number: u8,
-        line: usize,
-        column: usize,
+        refusal: Option<Refusal>,
     }
 
-    fn judge(text: &[u8], heap: Global) -> (u8, usize, usize) {
-        let mut session = Session::empty(heap);
-        match read(text, &mut session, heap) {
-            Ok(()) => (0, 0, 0),
-            Err(fault) => {
-                let refusal = fault.refusal();
-                (refusal.number, refusal.first, refusal.second)
-            }
+    fn refused(text: &'static str, number: u8, line: usize, column: usize) -> Case {
+        Case {
+            text,
+            refusal: Some(Refusal::new(number, Layer::Text, line, column)),
         }
+    }
+
+    fn accepted(text: &'static str) -> Case {
+        Case {
+            text,
+            refusal: None,
+        }
+    }
+
+    fn judge(text: &[u8], heap: Global) -> Option<Refusal> {
+        let mut session = Session::empty(heap);
+        read(text, &mut session, heap)
+            .err()
+            .map(|fault| fault.refusal())
     }
 
     fn check_all(rt: &impl Abort, cases: &[Case], heap: Global) {
         for case in cases {
             let found = judge(case.text.as_bytes(), heap);
-            assert_eq!(rt;
-                found,
-                (case.number, case.line, case.column),
-                "{}",
-                case.text
-            );
+            assert_eq!(rt; found, case.refusal, "{}", case.text);
         }
     }
 
     #[test]
     fn bytes_and_spaces(rt: HostRuntime) {
         let cases = [
-            Case {
-                text: "",
-                number: 2,
-                line: 1,
-                column: 1,
-            },
-            Case {
-                text: "session 1 48000",
-                number: 2,
-                line: 1,
-                column: 16,
-            },
-            Case {
-                text: "session 1 48000\n",
-                number: 2,
-                line: 2,
-                column: 1,
-            },
-            Case {
-                text: "session 1 48000\r\n",
-                number: 2,
-                line: 1,
-                column: 16,
-            },
-            Case {
-                text: "session 1 48000\nnode 0 bus\nend",
-                number: 2,
-                line: 3,
-                column: 4,
-            },
-            Case {
-                text: "Session",
-                number: 2,
-                line: 1,
-                column: 1,
-            },
-            Case {
-                text: "\n",
-                number: 3,
-                line: 1,
-                column: 1,
-            },
-            Case {
-                text: " session 1 48000\n",
-                number: 3,
-                line: 1,
-                column: 1,
-            },
-            Case {
-                text: "session  1 48000\n",
-                number: 3,
-                line: 1,
-                column: 9,
-            },
-            Case {
-                text: "session 1 48000 \n",
-                number: 3,
-                line: 1,
-                column: 17,
-            },
+            refused("", 2, 1, 1),
+            refused("session 1 48000", 2, 1, 16),
+            refused("session 1 48000\n", 2, 2, 1),
+            refused("session 1 48000\r\n", 2, 1, 16),
+            refused("session 1 48000\nnode 0 bus\nend", 2, 3, 4),
+            refused("Session", 2, 1, 1),
+            refused("\n", 3, 1, 1),
+            refused(" session 1 48000\n", 3, 1, 1),
+            refused("session  1 48000\n", 3, 1, 9),
+            refused("session 1 48000 \n", 3, 1, 17),
         ];
         check_all(&rt, &cases, rt.alloc());
     }
@@ -112,66 +65,26 @@ mod tests {
     #[test]
     fn first_words_and_forms(rt: HostRuntime) {
         let cases = [
-            Case {
-                text: "unit 0 pan 1\n",
-                number: 4,
-                line: 1,
-                column: 1,
-            },
-            Case {
-                text: "session 1 48000\nend\n",
-                number: 4,
-                line: 2,
-                column: 1,
-            },
-            Case {
-                text: "session 1 48000\nunit 0 fir 1 0\nnode 0 bus\nunit 1 fir 1 0\n",
-                number: 4,
-                line: 4,
-                column: 1,
-            },
-            Case {
-                text: "session 1 48000\nnodes\n",
-                number: 4,
-                line: 2,
-                column: 1,
-            },
-            Case {
-                text: "session 2 48000\n",
-                number: 5,
-                line: 1,
-                column: 9,
-            },
-            Case {
-                text: "session 1\n",
-                number: 5,
-                line: 1,
-                column: 10,
-            },
-            Case {
-                text: "session 1 48000\nunit 0 pan 5\n",
-                number: 5,
-                line: 2,
-                column: 8,
-            },
-            Case {
-                text: "session 1 48000\nnode 0\n",
-                number: 5,
-                line: 2,
-                column: 7,
-            },
-            Case {
-                text: "session 1 48000\nunit 0 fir 1 0\nnode 0 bus\nend x\n",
-                number: 5,
-                line: 4,
-                column: 5,
-            },
-            Case {
-                text: "session 1 48000\nunit 0 fir 1 0\nlayer 0 gate\n",
-                number: 5,
-                line: 3,
-                column: 9,
-            },
+            refused("unit 0 pan 1\n", 4, 1, 1),
+            refused("session 1 48000\nend\n", 4, 2, 1),
+            refused(
+                "session 1 48000\nunit 0 fir 1 0\nnode 0 bus\nunit 1 fir 1 0\n",
+                4,
+                4,
+                1,
+            ),
+            refused("session 1 48000\nnodes\n", 4, 2, 1),
+            refused("session 2 48000\n", 5, 1, 9),
+            refused("session 1\n", 5, 1, 10),
+            refused("session 1 48000\nunit 0 pan 5\n", 5, 2, 8),
+            refused("session 1 48000\nnode 0\n", 5, 2, 7),
+            refused(
+                "session 1 48000\nunit 0 fir 1 0\nnode 0 bus\nend x\n",
+                5,
+                4,
+                5,
+            ),
+            refused("session 1 48000\nunit 0 fir 1 0\nlayer 0 gate\n", 5, 3, 9),
         ];
         check_all(&rt, &cases, rt.alloc());
     }
@@ -179,78 +92,33 @@ mod tests {
     #[test]
     fn numbers_and_fits(rt: HostRuntime) {
         let cases = [
-            Case {
-                text: "session 1 7999\n",
-                number: 6,
-                line: 1,
-                column: 11,
-            },
-            Case {
-                text: "session 1 192001\n",
-                number: 6,
-                line: 1,
-                column: 11,
-            },
-            Case {
-                text: "session 1 48000\nunit 0 fir 1 0\nnode 0 bus\nline 0 0 -0\n",
-                number: 6,
-                line: 4,
-                column: 10,
-            },
-            Case {
-                text: "session 1 48000\nunit 0 fir 30 1\n",
-                number: 6,
-                line: 2,
-                column: 12,
-            },
-            Case {
-                text: "session 1 48000\nunit 0 fir 03 1\n",
-                number: 6,
-                line: 2,
-                column: 12,
-            },
-            Case {
-                text: "session 1 48000\nnode 16 bus\n",
-                number: 6,
-                line: 2,
-                column: 6,
-            },
-            Case {
-                text: "session 1 48000\nnode 1 bus\n",
-                number: 7,
-                line: 2,
-                column: 6,
-            },
-            Case {
-                text: "session 1 48000\nunit 0 fir 1 0\nunit 0 fir 1 0\n",
-                number: 7,
-                line: 3,
-                column: 6,
-            },
-            Case {
-                text: "session 1 48000\nlayer 2 bypass\n",
-                number: 7,
-                line: 2,
-                column: 7,
-            },
-            Case {
-                text: "session 1 48000\nunit 0 fir 1 0\nlayer 0 trim 16384\nlayer 0 trim x\n",
-                number: 7,
-                line: 4,
-                column: 9,
-            },
-            Case {
-                text: "session 1 48000\nunit 0 fir 1 0\nnode 0 bus unit 1\n",
-                number: 7,
-                line: 3,
-                column: 17,
-            },
-            Case {
-                text: "session 1 48000\nnode 0 track 0\nline 0 0 1\n",
-                number: 7,
-                line: 3,
-                column: 8,
-            },
+            refused("session 1 7999\n", 6, 1, 11),
+            refused("session 1 192001\n", 6, 1, 11),
+            refused(
+                "session 1 48000\nunit 0 fir 1 0\nnode 0 bus\nline 0 0 -0\n",
+                6,
+                4,
+                10,
+            ),
+            refused("session 1 48000\nunit 0 fir 30 1\n", 6, 2, 12),
+            refused("session 1 48000\nunit 0 fir 03 1\n", 6, 2, 12),
+            refused("session 1 48000\nnode 16 bus\n", 6, 2, 6),
+            refused("session 1 48000\nnode 1 bus\n", 7, 2, 6),
+            refused("session 1 48000\nunit 0 fir 1 0\nunit 0 fir 1 0\n", 7, 3, 6),
+            refused("session 1 48000\nlayer 2 bypass\n", 7, 2, 7),
+            refused(
+                "session 1 48000\nunit 0 fir 1 0\nlayer 0 trim 16384\nlayer 0 trim x\n",
+                7,
+                4,
+                9,
+            ),
+            refused(
+                "session 1 48000\nunit 0 fir 1 0\nnode 0 bus unit 1\n",
+                7,
+                3,
+                17,
+            ),
+            refused("session 1 48000\nnode 0 track 0\nline 0 0 1\n", 7, 3, 8),
         ];
         check_all(&rt, &cases, rt.alloc());
     }
@@ -258,30 +126,25 @@ mod tests {
     #[test]
     fn the_rest(rt: HostRuntime) {
         let cases = [
-            Case {
-                text: "session 1 48000\nunit 0 fir 1 0\nnode 0 bus\nend\n\n",
-                number: 9,
-                line: 5,
-                column: 1,
-            },
-            Case {
-                text: "session 1 48000\nunit 0 fir 1 0\nnode 0 bus\nend\nend\n",
-                number: 9,
-                line: 5,
-                column: 1,
-            },
-            Case {
-                text: "session 1 48000\nunit 0 fir 1 0\nnode 0 bus\nend\n",
-                number: 0,
-                line: 0,
-                column: 0,
-            },
-            Case {
-                text: "session 1 48000\nunit 0 fir 1 0\nnode 0 bus\nlayer 0 bypass\n",
-                number: 4,
-                line: 4,
-                column: 1,
-            },
+            refused(
+                "session 1 48000\nunit 0 fir 1 0\nnode 0 bus\nend\n\n",
+                9,
+                5,
+                1,
+            ),
+            refused(
+                "session 1 48000\nunit 0 fir 1 0\nnode 0 bus\nend\nend\n",
+                9,
+                5,
+                1,
+            ),
+            accepted("session 1 48000\nunit 0 fir 1 0\nnode 0 bus\nend\n"),
+            refused(
+                "session 1 48000\nunit 0 fir 1 0\nnode 0 bus\nlayer 0 bypass\n",
+                4,
+                4,
+                1,
+            ),
         ];
         check_all(&rt, &cases, rt.alloc());
     }
@@ -300,12 +163,21 @@ mod tests {
     fn lengths(rt: HostRuntime) -> Result<(), Fail> {
         let most = long_line(rt.alloc(), 16384)?;
         assert_eq!(rt; most.len(), 16384);
-        assert_eq!(rt; judge(most.as_bytes(), rt.alloc()), (5, 1, 17));
+        assert_eq!(rt;
+            judge(most.as_bytes(), rt.alloc()),
+            Some(Refusal::new(5, Layer::Text, 1, 17))
+        );
         let more = long_line(rt.alloc(), 16385)?;
         assert_eq!(rt; more.len(), 16385);
-        assert_eq!(rt; judge(more.as_bytes(), rt.alloc()), (1, 0, 0));
+        assert_eq!(rt;
+            judge(more.as_bytes(), rt.alloc()),
+            Some(Refusal::new(1, Layer::Text, 0, 0))
+        );
         let twice = long_line(rt.alloc(), 32768)?;
-        assert_eq!(rt; judge(twice.as_bytes(), rt.alloc()), (1, 0, 0));
+        assert_eq!(rt;
+            judge(twice.as_bytes(), rt.alloc()),
+            Some(Refusal::new(1, Layer::Text, 0, 0))
+        );
         Ok(())
     }
 
@@ -365,15 +237,21 @@ mod tests {
         }
         let mut whole = text.clone()?;
         whole.push_str("end\n")?;
-        assert_eq!(rt; judge(whole.as_bytes(), rt.alloc()), (0, 0, 0));
+        assert_eq!(rt; judge(whole.as_bytes(), rt.alloc()), None);
         let mut session = Session::empty(rt.alloc());
         let _ = read(whole.as_bytes(), &mut session, rt.alloc());
         assert_eq!(rt; session.nodes().len(), 16);
         assert_eq!(rt; session.lines().len(), 48);
         text.push_str("line 0 0 x\n")?;
-        assert_eq!(rt; judge(text.as_bytes(), rt.alloc()), (8, 90, 1));
+        assert_eq!(rt;
+            judge(text.as_bytes(), rt.alloc()),
+            Some(Refusal::new(8, Layer::Text, 90, 1))
+        );
         text.push_str("line 0 0 1\n")?;
-        assert_eq!(rt; judge(text.as_bytes(), rt.alloc()), (8, 90, 1));
+        assert_eq!(rt;
+            judge(text.as_bytes(), rt.alloc()),
+            Some(Refusal::new(8, Layer::Text, 90, 1))
+        );
         Ok(())
     }
 
