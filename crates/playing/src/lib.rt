@@ -5,6 +5,7 @@ ghost use Rattle.std.specs.Prelude.{◌≡◌, true};
 ghost use Rattle.playing.specs.Theorems.{PlaysThePatch};
 
 mod desks;
+// A theorem and its proof stand apart from the call, so that a call which denies it is refused for that alone.
 mod proved;
 
 // Frame by frame, from rest and a silent tape, node 0's signal under the patch comes out.

@@ -6,6 +6,7 @@ ghost use Rattle.signals.specs.Examples.{Comb, HeldLonger};
 ghost use Rattle.signals.specs.Theorems.{OneAnswer, MovesInTime, OneIdeal, OneUnder, AlignedIsIdeal, OneLateness, OursIsAligned, OneArrival, OursIsLeast, DelaysStayShort};
 ghost use Rattle.std.specs.Prelude.{◌≡◌, true};
 
+// A theorem and its proof stand apart from the call, so that a call which denies it is refused for that alone.
 mod proved;
 
 // What a unit makes of a signal does not depend on where one begins to listen.

@@ -4,6 +4,7 @@
 ghost use Rattle.std.specs.Prelude.{◌≡◌, true};
 ghost use Rattle.voices.specs.Examples.{Examples};
 
+// A theorem and its proof stand apart from the call, so that a call which denies it is refused for that alone.
 mod proved;
 
 // The worked examples of the kinds, as facts of their definitions.

@@ -5,6 +5,7 @@
 ghost use Rattle.std.specs.Prelude.{◌≡◌, true};
 ghost use Rattle.worked.specs.Examples.{TenExamples};
 
+// A theorem and its proof stand apart from the call, so that a call which denies it is refused for that alone.
 mod proved;
 
 // The ten examples are right.
