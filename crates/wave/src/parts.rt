@@ -27,14 +27,12 @@ impl TrackPart {
     pub fn frame_count(self) -> Option<u32>
         ensures { result ≡ frame_count self.length }
     {
-        if self.length < 44 || self.length % 4 != 0 {
-            return None;
+        let n = self.length.saturating_sub(44) / 4;
+        if self.length == 44 + 4 * n && n <= 1048576 {
+            Some(n as u32)
+        } else {
+            None
         }
-        let n = (self.length - 44) / 4;
-        if n > 1048576 {
-            return None;
-        }
-        Some(n as u32)
     }
 
     // How many frames the part gives of these bytes.
@@ -44,10 +42,7 @@ impl TrackPart {
         if !self.lies_in(bytes.len()) {
             return 0;
         }
-        match self.frame_count() {
-            Some(n) => n,
-            None => 0,
-        }
+        self.frame_count().unwrap_or(0)
     }
 
     // Frame `n` of the part.

@@ -48,10 +48,7 @@ fn counted(track: usize, part: TrackPart) -> Result<u32, WaveFault>
     ensures value { result ≡ (if is_file_length part.length then Ok (frames_in part.length) else Err (Length track)) }
     ensures size { IfOk result (λ n. part.length ≡ 44 + 4 * n) }
 {
-    match part.frame_count() {
-        Some(n) => Ok(n),
-        None => Err(WaveFault::Length(track)),
-    }
+    part.frame_count().ok_or(WaveFault::Length(track))
 }
 
 // The first byte that is not as expected.
@@ -72,10 +69,7 @@ fn headed(rate: u32, track: usize, held: &[u8], n: u32) -> Result<(), WaveFault>
     requires { 44 ≤ length held.now }
     ensures { result ≡ answered (head_fault track (first_other 0 (head_bytes n rate) held.now)) }
 {
-    match first_other(&head(n, rate), held) {
-        Some(byte) => Err(WaveFault::Head(track, byte)),
-        None => Ok(()),
-    }
+    first_other(&head(n, rate), held).map_or(Ok(()), |byte| Err(WaveFault::Head(track, byte)))
 }
 
 // The checks of a track whose part is not empty, in turn.
