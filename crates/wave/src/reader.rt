@@ -23,15 +23,6 @@ pub enum WaveFault {
     Head(usize, usize),
 }
 
-// The bytes from a place on.
-fn rest(bytes: &[u8], start: usize) -> &[u8]
-    requires { start ≤ length bytes.now }
-    ensures value { result.now ≡ drop start bytes.now }
-    ensures size { start + length result.now ≡ length bytes.now }
-{
-    &bytes[start..]
-}
-
 // Check 18: the bytes from the part's start on.
 fn within(bytes: &[u8], track: usize, part: TrackPart) -> Result<&[u8], WaveFault>
     ensures value { MatchResult result (λ held. (inside (length bytes.now) part ≡ true) × (held.now ≡ drop part.start bytes.now)) (λ e. (inside (length bytes.now) part ≡ false) × (e ≡ Outside track)) }
@@ -40,7 +31,7 @@ fn within(bytes: &[u8], track: usize, part: TrackPart) -> Result<&[u8], WaveFaul
     if !part.lies_in(bytes.len()) {
         return Err(WaveFault::Outside(track));
     }
-    Ok(rest(bytes, part.start))
+    Ok(&bytes[part.start..])
 }
 
 // Check 10: how many frames the part's file has.
@@ -56,12 +47,10 @@ fn first_other(expected: &[u8], held: &[u8]) -> Option<usize>
     requires { length expected.now ≤ length held.now }
     ensures { result ≡ first_other 0 expected.now held.now }
 {
-    for (i, byte) in expected.iter().enumerate() {
-        if held[i] != *byte {
-            return Some(i);
-        }
-    }
-    None
+    expected
+        .iter()
+        .zip(held)
+        .position(|(byte, other)| other != byte)
 }
 
 // Check 11: whether the bytes begin with the head of `n` frames.

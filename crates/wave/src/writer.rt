@@ -86,18 +86,6 @@ fn put_all(frames: &[Frame], out: &mut [u8])
     }
 }
 
-// The bytes of some frames, into a buffer that must be exactly as long; else it stays as it was.
-pub fn write_frames(frames: &[Frame], out: &mut [u8]) -> Result<(), WriteFault>
-    ensures value { result ≡ (if nat_eq (length out.old) (4 * length frames.now) then Ok tt else Err BufferLength) }
-    ensures bytes { out.new ≡ (if nat_eq (length out.old) (4 * length frames.now) then frames_bytes frames.now else out.old) }
-{
-    if out.len() % 4 != 0 || out.len() / 4 != frames.len() {
-        return Err(WriteFault::BufferLength);
-    }
-    put_all(frames, out);
-    Ok(())
-}
-
 // Checks 19 and 27: a session with a node, and not too many frames.
 fn check_frames(session: &Session, n: usize) -> Result<(), WriteFault>
     ensures value { result ≡ answered (frames_fault (held session.now) n) }
@@ -124,6 +112,16 @@ fn check_size(size: usize, needed: usize) -> Result<(), WriteFault>
     Ok(())
 }
 
+// The bytes of some frames, into a buffer that must be exactly as long; else it stays as it was.
+pub fn write_frames(frames: &[Frame], out: &mut [u8]) -> Result<(), WriteFault>
+    ensures value { result ≡ (if nat_eq (length out.old) (4 * length frames.now) then Ok tt else Err BufferLength) }
+    ensures bytes { out.new ≡ (if nat_eq (length out.old) (4 * length frames.now) then frames_bytes frames.now else out.old) }
+{
+    check_size(out.len(), 4 * frames.len())?;
+    put_all(frames, out);
+    Ok(())
+}
+
 // The head of `n` frames at the session's rate, into a buffer that must be exactly 44 bytes long. On a refusal the buffer
 // stays as it was.
 pub fn write_head(session: &Session, n: u32, out: &mut [u8]) -> Result<(), WriteFault>
@@ -136,35 +134,6 @@ pub fn write_head(session: &Session, n: u32, out: &mut [u8]) -> Result<(), Write
     Ok(())
 }
 
-// A head into the first 44 bytes.
-fn put_head(rate: u32, n: u32, out: &mut [u8])
-    requires { 44 ≤ length out.old }
-    ensures { out.new ≡ head_bytes n rate ++ drop 44 out.old }
-{
-    out[..44].copy_from_slice(&head(n, rate));
-}
-
-// The bytes of some frames, after the first 44 bytes.
-fn put_body(frames: &[Frame], out: &mut [u8])
-    requires { length out.old ≡ 44 + 4 * length frames.now }
-    ensures bytes { out.new ≡ take 44 out.old ++ frames_bytes frames.now }
-    ensures samples { AllFrames frames.now }
-{
-    put_all(frames, &mut out[44..]);
-}
-
-// A file's head and then its frames.
-fn put_file(session: &Session, frames: &[Frame], out: &mut [u8])
-    requires node { 0 < length (held session.now).plan.nodes }
-    requires few { length frames.now ≤ 1048576 }
-    requires room { length out.old ≡ 44 + 4 * length frames.now }
-    ensures bytes { out.new ≡ file_bytes (held session.now).rate frames.now }
-    ensures back { ReadBack (held session.now) out.new frames.now }
-{
-    put_head(session.rate(), frames.len() as u32, out);
-    put_body(frames, out);
-}
-
 // The whole file of some frames at the session's rate, into a buffer that must be exactly as long. On a refusal the buffer
 // stays as it was.
 pub fn write_file(session: &Session, frames: &[Frame], out: &mut [u8]) -> Result<(), WriteFault>
@@ -174,6 +143,8 @@ pub fn write_file(session: &Session, frames: &[Frame], out: &mut [u8]) -> Result
 {
     check_frames(session, frames.len())?;
     check_size(out.len(), 44 + 4 * frames.len())?;
-    put_file(session, frames, out);
+    let (front, body) = out.split_at_mut(44);
+    front.copy_from_slice(&head(frames.len() as u32, session.rate()));
+    put_all(frames, body);
     Ok(())
 }
