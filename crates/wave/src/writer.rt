@@ -75,7 +75,8 @@ fn put(out: &mut [u8], at: usize, f: Frame)
     out[at..at + 4].copy_from_slice(&bytes);
 }
 
-// The bytes of some frames, into a buffer of their length.
+// The bytes of some frames, into a buffer of their length. Each frame is put at its place: of a slice that was lent in chunks
+// no proof knows what it holds afterwards.
 fn put_all(frames: &[Frame], out: &mut [u8])
     requires { length out.old ≡ 4 * length frames.now }
     ensures bytes { out.new ≡ frames_bytes frames.now }
