@@ -1,9 +1,10 @@
-ghost use Rattle.std.specs.Prelude.{◌≡◌, ◌+◌, ◌≤◌, length, Some, None};
+ghost use Rattle.std.specs.Prelude.{◌≡◌, ◌+◌, ◌≤◌, true, false, length, drop, IfSome, MatchOption, Some, None};
 ghost use Rattle.wave.specs.Parts.{frame_at, frame_count, inside, part_frame, part_frames, sample_of};
 
 use frames::samples::Frame;
 
-// Where a track's file stands in a buffer. A part of length 0 is an empty track.
+// Where a track's file stands in a buffer. A part of length 0 is an empty track. It is no slice of the buffer, since a part
+// that does not lie there is to be refused.
 #[derive(Clone, Copy)]
 pub struct TrackPart {
     pub start: usize,
@@ -21,6 +22,18 @@ impl TrackPart {
         ensures { result ≡ inside size self }
     {
         self.start <= size && self.length <= size - self.start
+    }
+
+    // The bytes from the part's start on; None where the part does not lie in them.
+    pub(crate) fn from_start(self, bytes: &[u8]) -> Option<&[u8]>
+        ensures value { MatchOption result (inside (length bytes.now) self ≡ false) (λ held. (inside (length bytes.now) self ≡ true) × (held.now ≡ drop self.start bytes.now)) }
+        ensures room { IfSome result (λ held. self.length ≤ length held.now) }
+    {
+        if self.lies_in(bytes.len()) {
+            Some(&bytes[self.start..])
+        } else {
+            None
+        }
     }
 
     // How many frames a file of the part's length holds; None where no file is that long.
