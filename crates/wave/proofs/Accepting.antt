@@ -1,6 +1,7 @@
 -- What is accepted, and the place of the first other byte.
 use Rattle.std.proofs.Common.{◌≡◌, ℕ, zero, suc, ◌+◌, ◌*◌, ◌<◌, true, false, cond, eqb, leb, ◌⊎◌, List, [], ◌∷◌, ◌++◌, length, get_or, take, drop, Some, None, Option, sym, refl, ap, ◌∙◌, subst, ap₂, inl, inr, ⊎_elim, arith}
 use Rattle.std.proofs.lemmas.List.{take-append-drop}
+use Rattle.std.proofs.lemmas.Option.{none-some}
 use Rattle.std.proofs.lemmas.Bool.{and_from, and_parts, cases_Bool, cond-false, cond-true, eq-eqb, eqb-false, eqb-true, le-leb, leb-true, ne_eqb}
 use Rattle.wave.proofs.Reading.{no_faults, same_bytes}
 use Rattle.wave.proofs.Rows.{head_length}
@@ -15,7 +16,7 @@ use Rattle.wave.specs.declared.reader.WaveFault.{WaveFault}
 use Rattle.wave.specs.declared.reader.WaveFault.TheVariants.{NoNode, Outside, Length, Head}
 
 some_none : {A : Type 0} {P : Type 0} (x : A) → Some x ≡ None → P
-some_none x e = let z : ◌≡◌ {A = ℕ} 0 1 = cc in absurd (omega arith)
+some_none x e = absurd (none-some x (sym e))
 
 -- no other byte
 same_head : (k : ℕ) (xs ys : List ℕ) → first_other k xs ys ≡ None → take (length xs) ys ≡ xs
