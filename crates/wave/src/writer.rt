@@ -28,32 +28,21 @@ fn little(n: u64) -> [u8; 4]
     [a, b, c, d]
 }
 
-// A head around its four numbers.
-fn head_around(size: [u8; 4], rate: [u8; 4], byte_rate: [u8; 4], data: [u8; 4]) -> [u8; 44]
-    ensures { result ≡ head_around size rate byte_rate «data» }
-{
-    let [a, b, c, d] = size;
-    let [e, f, g, h] = rate;
-    let [i, j, k, l] = byte_rate;
-    let [m, n, o, p] = data;
-    [
-        b'R', b'I', b'F', b'F', a, b, c, d, b'W', b'A', b'V', b'E', b'f', b'm', b't', b' ', 16, 0,
-        0, 0, 1, 0, 2, 0, e, f, g, h, i, j, k, l, 4, 0, 16, 0, b'd', b'a', b't', b'a', m, n, o, p,
-    ]
-}
-
 // The 44 bytes that stand before `n` frames at a rate.
+#[tactic(auto, unfolding(crate::specs::Bytes::head_around))]
 pub fn head(n: u32, rate: u32) -> [u8; 44]
     ensures { result ≡ head_bytes n rate }
 {
     let frames = u64::from(n);
     let hertz = u64::from(rate);
-    head_around(
-        little(36 + 4 * frames),
-        little(hertz),
-        little(4 * hertz),
-        little(4 * frames),
-    )
+    let [a, b, c, d] = little(36 + 4 * frames);
+    let [e, f, g, h] = little(hertz);
+    let [i, j, k, l] = little(4 * hertz);
+    let [m, o, p, q] = little(4 * frames);
+    [
+        b'R', b'I', b'F', b'F', a, b, c, d, b'W', b'A', b'V', b'E', b'f', b'm', b't', b' ', 16, 0,
+        0, 0, 1, 0, 2, 0, e, f, g, h, i, j, k, l, 4, 0, 16, 0, b'd', b'a', b't', b'a', m, o, p, q,
+    ]
 }
 
 // One frame's bytes.
