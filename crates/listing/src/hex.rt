@@ -4,12 +4,13 @@ ghost use Rattle.listing.specs.Hex.{digit, four_digits, frame_line, frame_lines,
 use frames::samples::Frame;
 use std::alloc::{AllocError, Global};
 
-// The lowest digit of a number.
+const DIGITS: [u8; 16] = *b"0123456789ABCDEF";
+
+// The lowest digit of a number. `{:X}` writes the same digits, but nothing says that it succeeds where the vector has room.
 fn lowest(n: u32) -> u8
     ensures { result ≡ digit (n % 16) }
 {
-    let d = (n % 16) as u8;
-    if d < 10 { 48 + d } else { 55 + d }
+    DIGITS[(n % 16) as usize]
 }
 
 // The lowest four digits of a number.
@@ -33,12 +34,10 @@ fn zeros(digits: &[u8; 8]) -> usize
     ensures bound { result ≤ 4 }
     ensures rest { drop result digits.now ≡ without_zeros 4 digits.now }
 {
-    for i in 0..4 {
-        if digits[i] != 48 {
-            return i;
-        }
-    }
-    4
+    digits[..4]
+        .iter()
+        .take_while(|digit| **digit == b'0')
+        .count()
 }
 
 // Adds eight digits without the zeros in front.
@@ -75,9 +74,7 @@ fn push_lines(out: &mut Vec<u8>, frames: &[Frame]) -> Result<(), AllocError>
     ensures room { vec_len out.old + 9 * length frames.now ≤ vec_capacity out.old → is_ok result ≡ true }
 {
     for f in frames {
-        if let Err(e) = out.extend_from_slice(&line_of(*f)) {
-            return Err(e);
-        }
+        out.extend_from_slice(&line_of(*f))?;
     }
     Ok(())
 }
@@ -88,6 +85,7 @@ pub fn push_frames(out: &mut Vec<u8>, frames: &[Frame]) -> Result<(), AllocError
     ensures items { out.new.items ≡ (if is_ok result then out.old.items ++ frame_lines frames.now else out.old.items) }
     ensures room { vec_len out.old + 9 * length frames.now ≤ vec_capacity out.old → is_ok result ≡ true }
 {
+    // Not by `inspect_err`: no proof knows what its closure leaves in the vector.
     let before = out.len();
     let done = push_lines(out, frames);
     if done.is_err() {

@@ -16,9 +16,7 @@ const RATE: u32 = 48000;
 // The whole file: the head, then the frames' bytes.
 fn file_bytes(rt: &HostRuntime, frames: &[Frame], count: u32) -> anyhow::Result<Vec<u8>> {
     let mut body = vec![in rt.alloc(); 0u8; 4 * frames.len()]?;
-    if write_frames(frames, &mut body).is_err() {
-        return Err(anyhow!("the frames do not fit their buffer"));
-    }
+    write_frames(frames, &mut body).map_err(|_| anyhow!("the frames do not fit their buffer"))?;
     let mut bytes = Vec::new(rt.alloc());
     bytes.extend_from_slice(&head(count, RATE))?;
     bytes.extend_from_slice(&body)?;
@@ -28,17 +26,14 @@ fn file_bytes(rt: &HostRuntime, frames: &[Frame], count: u32) -> anyhow::Result<
 fn list(rt: &HostRuntime, frames: &[Frame], count: u32) -> anyhow::Result<()> {
     let mut text = Vec::new(rt.alloc());
     push_number(&mut text, count)?;
-    text.push(10)?;
+    text.push(b'\n')?;
     push_frames(&mut text, frames)?;
     rt.stdout().write_all(&text)?;
     Ok(())
 }
 
 fn save(rt: &HostRuntime, bytes: &[u8]) -> anyhow::Result<()> {
-    match fs::write(rt, "mix.wav", bytes) {
-        Ok(()) => Ok(()),
-        Err(e) => Err(anyhow!(format!(in rt.alloc(); "mix.wav cannot be written: {e}")?)),
-    }
+    fs::write(rt, "mix.wav", bytes).map_err(|e| anyhow!("mix.wav cannot be written: {e}"))
 }
 
 fn run(rt: &HostRuntime) -> anyhow::Result<()> {

@@ -1,16 +1,10 @@
-ghost use Rattle.std.specs.Prelude.{◌≡◌, ◌+◌, ◌≤◌, max};
+ghost use Rattle.std.specs.Prelude.{◌≡◌, ◌+◌, ◌≤◌};
 ghost use Rattle.mixing.specs.Lengths.{longest, source_length};
 ghost use Rattle.session.specs.Sessions.{held};
 
 use reels::tracks::Reel;
 use session::nodes::{Node, Source};
 use session::sessions::Session;
-
-fn longer(a: u32, b: u32) -> u32
-    ensures { result ≡ max a b }
-{
-    if a < b { b } else { a }
-}
 
 // How many frames a node's source has: a track's length, 0 for a bus.
 fn source_length<L: Reel>(source: Source, reel: &L) -> u32
@@ -27,11 +21,11 @@ fn longest<L: Reel>(nodes: &[Node], reel: &L) -> u32
     ensures length { result ≡ longest (L.tracks reel.now) nodes.now }
     ensures bound { result ≤ 2147483647 }
 {
-    let mut most = 0;
-    for node in nodes {
-        most = longer(source_length(node.source, reel), most);
-    }
-    most
+    nodes
+        .iter()
+        .map(|node| source_length(node.source, reel))
+        .max()
+        .unwrap_or(0)
 }
 
 // How many frames a session's mix has that comes `late` frames late: the greatest length among its tracks, and the

@@ -33,9 +33,5 @@ pub fn mix_at_unity<R: Reel>(reel: &R, n: u32) -> Frame
 pub fn mix_all<R: Reel>(heap: Global, reel: &R, count: u32) -> Result<Vec<Frame>, AllocError>
     ensures { IfOk result (λ v. v.items ≡ map (all_at_unity (R.tracks reel.now)) (range_with_len 0 count)) }
 {
-    let mut frames = Vec::new(heap);
-    for n in 0..count {
-        frames.push(mix_at_unity(reel, n))?;
-    }
-    Ok(frames)
+    (0..count).map(|n| mix_at_unity(reel, n)).collect(heap)
 }

@@ -1,6 +1,7 @@
 -- What is accepted, and the place of the first other byte.
-use Rattle.std.proofs.Common.{◌≡◌, ℕ, zero, suc, ◌+◌, ◌*◌, ◌<◌, true, false, cond, eqb, leb, ◌⊎◌, List, [], ◌∷◌, ◌++◌, length, get_or, take, drop, Some, None, Option, sym, refl, ap, ◌∙◌, subst, ap₂, inl, inr, ⊎_elim, arith}
+use Rattle.std.proofs.Common.{◌≡◌, ℕ, zero, suc, ◌+◌, ◌*◌, ◌<◌, Bool, true, false, cond, eqb, leb, ◌⊎◌, List, [], ◌∷◌, ◌++◌, length, get_or, take, drop, Some, None, Option, sym, refl, ap, ◌∙◌, subst, ap₂, inl, inr, ⊎_elim, arith}
 use Rattle.std.proofs.lemmas.List.{take-append-drop}
+use Rattle.std.proofs.lemmas.Option.{none-some}
 use Rattle.std.proofs.lemmas.Bool.{and_from, and_parts, cases_Bool, cond-false, cond-true, eq-eqb, eqb-false, eqb-true, le-leb, leb-true, ne_eqb}
 use Rattle.wave.proofs.Reading.{no_faults, same_bytes}
 use Rattle.wave.proofs.Rows.{head_length}
@@ -14,18 +15,22 @@ use Rattle.wave.specs.declared.parts.TrackPart.{TrackPart}
 use Rattle.wave.specs.declared.reader.WaveFault.{WaveFault}
 use Rattle.wave.specs.declared.reader.WaveFault.TheVariants.{NoNode, Outside, Length, Head}
 
-some_none : {A : Type 0} {P : Type 0} (x : A) → Some x ≡ None → P
-some_none x e = let z : ◌≡◌ {A = ℕ} 0 1 = cc in absurd (omega arith)
+-- a check of which no fault came
+passed : {A : Type 0} (b : Bool) (later : Option A) (fault : A) → cond b later (Some fault) ≡ None → (b ≡ true) × (later ≡ None)
+passed true later fault h = (refl, h)
+passed false later fault h = absurd (none-some fault (sym h))
+
+spared : {A : Type 0} (b : Bool) (fault : A) (later : Option A) → cond b (Some fault) later ≡ None → (b ≡ false) × (later ≡ None)
+spared true fault later h = absurd (none-some fault (sym h))
+spared false fault later h = (refl, h)
 
 -- no other byte
 same_head : (k : ℕ) (xs ys : List ℕ) → first_other k xs ys ≡ None → take (length xs) ys ≡ xs
 same_head k [] ys h = refl
-same_head k (x ∷ xs) [] h = some_none k h
+same_head k (x ∷ xs) [] h = absurd (none-some k (sym h))
 same_head k (x ∷ xs) (y ∷ ys) h =
-    ⊎_elim
-    (λ e. ap₂ ◌∷◌ (eqb-true y x e) (same_head (k + 1) xs ys (sym (cond-true (eqb y x) (first_other (k + 1) xs ys) (Some k) e) ∙ h)))
-    (λ e. some_none k (sym (cond-false (eqb y x) (first_other (k + 1) xs ys) (Some k) e) ∙ h))
-    (cases_Bool (eqb y x))
+    let p = passed (eqb y x) (first_other (k + 1) xs ys) k h in
+    ap₂ ◌∷◌ (eqb-true y x p.0) (same_head (k + 1) xs ys p.1)
 
 -- the first other byte, counted from j
 OtherAt : ℕ → List ℕ → List ℕ → Type 0
@@ -41,7 +46,7 @@ other_here x y xs ys e = (omega arith, refl, λ g n. eqb-false y x e n)
 
 other_place : (j : ℕ) (xs ys : List ℕ) (k : ℕ) → first_other j xs ys ≡ Some k → (m : ℕ) × (k ≡ j + m) × OtherAt m xs ys
 unfolding OtherAt
-other_place j [] ys k h = some_none k (sym h)
+other_place j [] ys k h = absurd (none-some k h)
 other_place j (x ∷ xs) [] k h = let e : k ≡ j = cc in (0, omega arith, (omega arith, refl, λ g n. omega arith))
 other_place j (x ∷ xs) (y ∷ ys) k h =
     ⊎_elim
@@ -59,7 +64,7 @@ first_is_first xs ys k h =
 -- a part without a fault
 no_head_fault : (track : ℕ) (o : Option ℕ) → head_fault track o ≡ None → o ≡ None
 no_head_fault track None h = refl
-no_head_fault track (Some k) h = some_none (Head track k) h
+no_head_fault track (Some k) h = absurd (none-some (Head track k) (sym h))
 
 module _ (rate : ℕ) (bytes : List ℕ) (track : ℕ) (p : TrackPart) where
   abbrev held : List ℕ
@@ -89,18 +94,10 @@ module _ (rate : ℕ) (bytes : List ℕ) (track : ℕ) (p : TrackPart) where
       }
 
   taken_length : inside (length bytes) p ≡ true → by_length ≡ None → Taken rate bytes p
-  taken_length i h =
-      ⊎_elim
-      (λ f. taken_head i f (sym (cond-true (is_file_length p.length) by_head (Some (Length track)) f) ∙ h))
-      (λ f. some_none (Length track) (sym (cond-false (is_file_length p.length) by_head (Some (Length track)) f) ∙ h))
-      (cases_Bool (is_file_length p.length))
+  taken_length i h = let f = passed (is_file_length p.length) by_head (Length track) h in taken_head i f.0 f.1
 
   taken_place : by_place ≡ None → Taken rate bytes p
-  taken_place h =
-      ⊎_elim
-      (λ i. taken_length i (sym (cond-true (inside (length bytes) p) by_length (Some (Outside track)) i) ∙ h))
-      (λ i. some_none (Outside track) (sym (cond-false (inside (length bytes) p) by_length (Some (Outside track)) i) ∙ h))
-      (cases_Bool (inside (length bytes) p))
+  taken_place h = let i = passed (inside (length bytes) p) by_length (Outside track) h in taken_length i.0 i.1
 
   taken_by : part_fault rate bytes track p ≡ None → (p.length ≡ 0) ⊎ Taken rate bytes p
   taken_by h =
@@ -125,7 +122,7 @@ module _ (rate : ℕ) (bytes : List ℕ) (track : ℕ) (p : TrackPart) where
 -- each part has no fault
 or_none : (o later : Option WaveFault) → or_else o later ≡ None → (o ≡ None) × (later ≡ None)
 or_none None later h = (refl, h)
-or_none (Some x) later h = some_none x h
+or_none (Some x) later h = absurd (none-some x (sym h))
 
 none_each : (rate : ℕ) (bytes : List ℕ) (k : ℕ) (parts : List TrackPart) → parts_fault rate bytes k parts ≡ None → AllTaken rate bytes parts
 none_each rate bytes k [] h i g = absurd (omega arith)
@@ -136,10 +133,8 @@ none_each rate bytes k (p ∷ parts) h (suc i) g =
 pub accepted_exactly : AcceptedExactly
 unfolding AcceptedExactly
 accepted_exactly s bytes parts = (
-  λ h. ⊎_elim
-      (λ e. some_none NoNode (sym (cond-true (eqb (length s.plan.nodes) 0) (Some NoNode) (parts_fault s.rate bytes 0 parts) e) ∙ h))
-      (λ e. (let n = eqb-false (length s.plan.nodes) 0 e in omega arith, none_each s.rate bytes 0 parts (sym (cond-false (eqb (length s.plan.nodes) 0) (Some NoNode) (parts_fault s.rate bytes 0 parts) e) ∙ h)))
-      (cases_Bool (eqb (length s.plan.nodes) 0)),
+  λ h. let p = spared (eqb (length s.plan.nodes) 0) NoNode (parts_fault s.rate bytes 0 parts) h in
+      (let n = eqb-false (length s.plan.nodes) 0 p.0 in omega arith, none_each s.rate bytes 0 parts p.1),
   λ some each. cond-false (eqb (length s.plan.nodes) 0) _ _ (ne_eqb (length s.plan.nodes) 0 (λ z. omega arith))
       ∙ no_faults s.rate bytes 0 parts (λ i g track. taken_fine s.rate bytes track (part_of parts i) (each i g)),
 )

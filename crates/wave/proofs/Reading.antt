@@ -4,9 +4,10 @@ use Rattle.frames.specs.Samples.{silence, word}
 use Rattle.frames.specs.declared.samples.Frame.{Frame}
 use Rattle.session.specs.Held.{Held}
 use Rattle.std.proofs.lemmas.List.{append_assoc, get_or_append_left, get_or-append_right, get_or-drop, get_or_past, get_or-replicate, get_or-set_other, get_or-set_same, length-append, length-drop, length-set, length-take-le, take_all, take-append-drop}
+use Rattle.std.proofs.lemmas.List.Concat.{get_or-flat_map}
 use Rattle.std.proofs.lemmas.Int.{ints}
 use Rattle.std.proofs.lemmas.Bool.{and_from, cases_eq, cases_lt, cond-false, cond-true, eq-eqb, le-leb, le-ltb, lt-ltb, ne_eqb}
-use Rattle.wave.proofs.Rows.{frames_bytes_length, head_length}
+use Rattle.wave.proofs.Rows.{front_length, frames_bytes_length, head_length}
 use Rattle.wave.specs.Back.{AllFrames, FilesReadBack, HoldsFile, IsSample, ReadBack, RoundTrip, alone}
 use Rattle.wave.specs.Bytes.{file_bytes, frame_bytes, frames_bytes, head_bytes}
 use Rattle.wave.specs.Due.{or_else}
@@ -34,14 +35,7 @@ sample_back z h = ap signed (word_joined (word z) (word_small z h)) ∙ signed_w
 
 -- a frame's four bytes
 frames_byte : (fs : List Frame) (i j : ℕ) → i < length fs → j < 4 → get_or (frames_bytes fs) (4 * i + j) 0 ≡ get_or (frame_bytes (get_or fs i silence)) j 0
-frames_byte [] i j h g = absurd (omega arith)
-frames_byte (f ∷ fs) zero j h g =
-    let e : 4 * 0 + j ≡ j = omega arith in
-    ap (λ k. get_or (frames_bytes (f ∷ fs)) k 0) e ∙ get_or_append_left (frame_bytes f) (frames_bytes fs) 0 j g
-frames_byte (f ∷ fs) (suc i) j h g =
-    let e : 4 * suc i + j - 4 ≡ 4 * i + j = omega arith in
-    get_or-append_right (frame_bytes f) (frames_bytes fs) 4 (4 * suc i + j) 0 refl (omega arith) ∙ ap (λ k. get_or (frames_bytes fs) k 0) e
-    ∙ frames_byte fs i j (omega arith) g
+frames_byte fs i j h g = ap (λ n. get_or (frames_bytes fs) (n + j) 0) (sym (front_length fs i (omega arith))) ∙ get_or-flat_map frame_bytes fs i j silence 0 h g
 
 -- a head is its own
 pub same_bytes : (k : ℕ) (xs ys : List ℕ) → first_other k xs (xs ++ ys) ≡ None

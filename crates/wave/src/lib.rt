@@ -7,6 +7,7 @@ ghost use Rattle.wave.specs.Back.{FilesReadBack, RoundTrip};
 
 pub mod faults;
 pub mod parts;
+// Each theorem stands on a call of its own, so that an edit which denies that call's answer is refused.
 mod proved;
 pub mod reader;
 pub mod reel;

@@ -1,9 +1,10 @@
-ghost use Rattle.std.specs.Prelude.{◌≡◌, ◌+◌, ◌≤◌, length, Some, None};
+ghost use Rattle.std.specs.Prelude.{◌≡◌, ◌+◌, ◌≤◌, true, false, length, drop, IfSome, MatchOption, Some, None};
 ghost use Rattle.wave.specs.Parts.{frame_at, frame_count, inside, part_frame, part_frames, sample_of};
 
 use frames::samples::Frame;
 
-// Where a track's file stands in a buffer. A part of length 0 is an empty track.
+// Where a track's file stands in a buffer. A part of length 0 is an empty track. It is no slice of the buffer, since a part
+// that does not lie there is to be refused.
 #[derive(Clone, Copy)]
 pub struct TrackPart {
     pub start: usize,
@@ -23,18 +24,28 @@ impl TrackPart {
         self.start <= size && self.length <= size - self.start
     }
 
+    // The bytes from the part's start on; None where the part does not lie in them.
+    pub(crate) fn from_start(self, bytes: &[u8]) -> Option<&[u8]>
+        ensures value { MatchOption result (inside (length bytes.now) self ≡ false) (λ held. (inside (length bytes.now) self ≡ true) × (held.now ≡ drop self.start bytes.now)) }
+        ensures room { IfSome result (λ held. self.length ≤ length held.now) }
+    {
+        if self.lies_in(bytes.len()) {
+            Some(&bytes[self.start..])
+        } else {
+            None
+        }
+    }
+
     // How many frames a file of the part's length holds; None where no file is that long.
     pub fn frame_count(self) -> Option<u32>
         ensures { result ≡ frame_count self.length }
     {
-        if self.length < 44 || self.length % 4 != 0 {
-            return None;
+        let n = self.length.saturating_sub(44) / 4;
+        if self.length == 44 + 4 * n && n <= 1048576 {
+            Some(n as u32)
+        } else {
+            None
         }
-        let n = (self.length - 44) / 4;
-        if n > 1048576 {
-            return None;
-        }
-        Some(n as u32)
     }
 
     // How many frames the part gives of these bytes.
@@ -44,10 +55,7 @@ impl TrackPart {
         if !self.lies_in(bytes.len()) {
             return 0;
         }
-        match self.frame_count() {
-            Some(n) => n,
-            None => 0,
-        }
+        self.frame_count().unwrap_or(0)
     }
 
     // Frame `n` of the part.

@@ -23,71 +23,27 @@ pub enum WaveFault {
     Head(usize, usize),
 }
 
-// The bytes from a place on.
-fn rest(bytes: &[u8], start: usize) -> &[u8]
-    requires { start ≤ length bytes.now }
-    ensures value { result.now ≡ drop start bytes.now }
-    ensures size { start + length result.now ≡ length bytes.now }
-{
-    &bytes[start..]
-}
-
-// Check 18: the bytes from the part's start on.
-fn within(bytes: &[u8], track: usize, part: TrackPart) -> Result<&[u8], WaveFault>
-    ensures value { MatchResult result (λ held. (inside (length bytes.now) part ≡ true) × (held.now ≡ drop part.start bytes.now)) (λ e. (inside (length bytes.now) part ≡ false) × (e ≡ Outside track)) }
-    ensures room { IfOk result (λ held. part.length ≤ length held.now) }
-{
-    if !part.lies_in(bytes.len()) {
-        return Err(WaveFault::Outside(track));
-    }
-    Ok(rest(bytes, part.start))
-}
-
-// Check 10: how many frames the part's file has.
-fn counted(track: usize, part: TrackPart) -> Result<u32, WaveFault>
-    ensures value { result ≡ (if is_file_length part.length then Ok (frames_in part.length) else Err (Length track)) }
-    ensures size { IfOk result (λ n. part.length ≡ 44 + 4 * n) }
-{
-    match part.frame_count() {
-        Some(n) => Ok(n),
-        None => Err(WaveFault::Length(track)),
-    }
-}
-
 // The first byte that is not as expected.
 fn first_other(expected: &[u8], held: &[u8]) -> Option<usize>
     requires { length expected.now ≤ length held.now }
     ensures { result ≡ first_other 0 expected.now held.now }
 {
-    for (i, byte) in expected.iter().enumerate() {
-        if held[i] != *byte {
-            return Some(i);
-        }
-    }
-    None
+    expected
+        .iter()
+        .zip(held)
+        .position(|(byte, other)| other != byte)
 }
 
-// Check 11: whether the bytes begin with the head of `n` frames.
-fn headed(rate: u32, track: usize, held: &[u8], n: u32) -> Result<(), WaveFault>
-    requires { 44 ≤ length held.now }
-    ensures { result ≡ answered (head_fault track (first_other 0 (head_bytes n rate) held.now)) }
-{
-    match first_other(&head(n, rate), held) {
-        Some(byte) => Err(WaveFault::Head(track, byte)),
-        None => Ok(()),
-    }
-}
-
-// The checks of a track whose part is not empty, in turn.
+// The checks of a track whose part is not empty, in turn: 18, 10 and 11.
 fn check_part(rate: u32, bytes: &[u8], track: usize, part: TrackPart) -> Result<(), WaveFault>
     ensures { result ≡ answered (part_fault rate bytes.now track part) }
 {
     if part.length == 0 {
         return Ok(());
     }
-    let held = within(bytes, track, part)?;
-    let n = counted(track, part)?;
-    headed(rate, track, held, n)
+    let held = part.from_start(bytes).ok_or(WaveFault::Outside(track))?;
+    let n = part.frame_count().ok_or(WaveFault::Length(track))?;
+    first_other(&head(n, rate), held).map_or(Ok(()), |byte| Err(WaveFault::Head(track, byte)))
 }
 
 // The checks of all tracks, one after the other, at a session's rate.

@@ -37,18 +37,14 @@ impl<'a> Reel for WaveReel<'a> {
     ghost lawful = { λ r. wave_lawful r.bytes.now r.parts };
 
     fn length(&self, track: u8) -> u32 {
-        if track < 8 {
-            self.parts[usize::from(track)].frames(self.bytes)
-        } else {
-            0
-        }
+        self.parts
+            .get(usize::from(track))
+            .map_or(0, |part| part.frames(self.bytes))
     }
 
     fn frame(&self, track: u8, n: u32) -> Frame {
-        if track < 8 {
-            self.parts[usize::from(track)].frame(self.bytes, n)
-        } else {
-            Frame::SILENCE
-        }
+        self.parts
+            .get(usize::from(track))
+            .map_or(Frame::SILENCE, |part| part.frame(self.bytes, n))
     }
 }

@@ -28,32 +28,21 @@ fn little(n: u64) -> [u8; 4]
     [a, b, c, d]
 }
 
-// A head around its four numbers.
-fn head_around(size: [u8; 4], rate: [u8; 4], byte_rate: [u8; 4], data: [u8; 4]) -> [u8; 44]
-    ensures { result ≡ head_around size rate byte_rate «data» }
-{
-    let [a, b, c, d] = size;
-    let [e, f, g, h] = rate;
-    let [i, j, k, l] = byte_rate;
-    let [m, n, o, p] = data;
-    [
-        b'R', b'I', b'F', b'F', a, b, c, d, b'W', b'A', b'V', b'E', b'f', b'm', b't', b' ', 16, 0,
-        0, 0, 1, 0, 2, 0, e, f, g, h, i, j, k, l, 4, 0, 16, 0, b'd', b'a', b't', b'a', m, n, o, p,
-    ]
-}
-
 // The 44 bytes that stand before `n` frames at a rate.
+#[tactic(auto, unfolding(crate::specs::Bytes::head_around))]
 pub fn head(n: u32, rate: u32) -> [u8; 44]
     ensures { result ≡ head_bytes n rate }
 {
     let frames = u64::from(n);
     let hertz = u64::from(rate);
-    head_around(
-        little(36 + 4 * frames),
-        little(hertz),
-        little(4 * hertz),
-        little(4 * frames),
-    )
+    let [a, b, c, d] = little(36 + 4 * frames);
+    let [e, f, g, h] = little(hertz);
+    let [i, j, k, l] = little(4 * hertz);
+    let [m, o, p, q] = little(4 * frames);
+    [
+        b'R', b'I', b'F', b'F', a, b, c, d, b'W', b'A', b'V', b'E', b'f', b'm', b't', b' ', 16, 0,
+        0, 0, 1, 0, 2, 0, e, f, g, h, i, j, k, l, 4, 0, 16, 0, b'd', b'a', b't', b'a', m, o, p, q,
+    ]
 }
 
 // One frame's bytes.
@@ -75,7 +64,8 @@ fn put(out: &mut [u8], at: usize, f: Frame)
     out[at..at + 4].copy_from_slice(&bytes);
 }
 
-// The bytes of some frames, into a buffer of their length.
+// The bytes of some frames, into a buffer of their length. Each frame is put at its place: of a slice that was lent in chunks
+// no proof knows what it holds afterwards.
 fn put_all(frames: &[Frame], out: &mut [u8])
     requires { length out.old ≡ 4 * length frames.now }
     ensures bytes { out.new ≡ frames_bytes frames.now }
@@ -84,18 +74,6 @@ fn put_all(frames: &[Frame], out: &mut [u8])
     for (i, f) in frames.iter().enumerate() {
         put(out, 4 * i, *f);
     }
-}
-
-// The bytes of some frames, into a buffer that must be exactly as long; else it stays as it was.
-pub fn write_frames(frames: &[Frame], out: &mut [u8]) -> Result<(), WriteFault>
-    ensures value { result ≡ (if nat_eq (length out.old) (4 * length frames.now) then Ok tt else Err BufferLength) }
-    ensures bytes { out.new ≡ (if nat_eq (length out.old) (4 * length frames.now) then frames_bytes frames.now else out.old) }
-{
-    if out.len() % 4 != 0 || out.len() / 4 != frames.len() {
-        return Err(WriteFault::BufferLength);
-    }
-    put_all(frames, out);
-    Ok(())
 }
 
 // Checks 19 and 27: a session with a node, and not too many frames.
@@ -124,6 +102,16 @@ fn check_size(size: usize, needed: usize) -> Result<(), WriteFault>
     Ok(())
 }
 
+// The bytes of some frames, into a buffer that must be exactly as long; else it stays as it was.
+pub fn write_frames(frames: &[Frame], out: &mut [u8]) -> Result<(), WriteFault>
+    ensures value { result ≡ (if nat_eq (length out.old) (4 * length frames.now) then Ok tt else Err BufferLength) }
+    ensures bytes { out.new ≡ (if nat_eq (length out.old) (4 * length frames.now) then frames_bytes frames.now else out.old) }
+{
+    check_size(out.len(), 4 * frames.len())?;
+    put_all(frames, out);
+    Ok(())
+}
+
 // The head of `n` frames at the session's rate, into a buffer that must be exactly 44 bytes long. On a refusal the buffer
 // stays as it was.
 pub fn write_head(session: &Session, n: u32, out: &mut [u8]) -> Result<(), WriteFault>
@@ -136,35 +124,6 @@ pub fn write_head(session: &Session, n: u32, out: &mut [u8]) -> Result<(), Write
     Ok(())
 }
 
-// A head into the first 44 bytes.
-fn put_head(rate: u32, n: u32, out: &mut [u8])
-    requires { 44 ≤ length out.old }
-    ensures { out.new ≡ head_bytes n rate ++ drop 44 out.old }
-{
-    out[..44].copy_from_slice(&head(n, rate));
-}
-
-// The bytes of some frames, after the first 44 bytes.
-fn put_body(frames: &[Frame], out: &mut [u8])
-    requires { length out.old ≡ 44 + 4 * length frames.now }
-    ensures bytes { out.new ≡ take 44 out.old ++ frames_bytes frames.now }
-    ensures samples { AllFrames frames.now }
-{
-    put_all(frames, &mut out[44..]);
-}
-
-// A file's head and then its frames.
-fn put_file(session: &Session, frames: &[Frame], out: &mut [u8])
-    requires node { 0 < length (held session.now).plan.nodes }
-    requires few { length frames.now ≤ 1048576 }
-    requires room { length out.old ≡ 44 + 4 * length frames.now }
-    ensures bytes { out.new ≡ file_bytes (held session.now).rate frames.now }
-    ensures back { ReadBack (held session.now) out.new frames.now }
-{
-    put_head(session.rate(), frames.len() as u32, out);
-    put_body(frames, out);
-}
-
 // The whole file of some frames at the session's rate, into a buffer that must be exactly as long. On a refusal the buffer
 // stays as it was.
 pub fn write_file(session: &Session, frames: &[Frame], out: &mut [u8]) -> Result<(), WriteFault>
@@ -174,6 +133,8 @@ pub fn write_file(session: &Session, frames: &[Frame], out: &mut [u8]) -> Result
 {
     check_frames(session, frames.len())?;
     check_size(out.len(), 44 + 4 * frames.len())?;
-    put_file(session, frames, out);
+    let (front, body) = out.split_at_mut(44);
+    front.copy_from_slice(&head(frames.len() as u32, session.rate()));
+    put_all(frames, body);
     Ok(())
 }

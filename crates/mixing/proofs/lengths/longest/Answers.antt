@@ -1,38 +1,29 @@
-use Rattle.std.proofs.Common.{◌≡◌, ◌≤◌, max, List, [], ◌∷◌, get_or, take, None, sym, ap, ◌∙◌, ap₂, arith}
+use Rattle.std.proofs.Common.{◌≡◌, ◌≤◌, None, refl, arith, rules}
 use Rattle.mixing.proofs.lengths.longest.Goals as goal
 use Rattle.mixing.specs.Lengths.{longest, source_length}
 use Rattle.reels.specs.Tracks.{ReelLaws, Tracks}
 use Rattle.session.specs.declared.nodes.Node.{Node}
 use Rattle.session.specs.declared.nodes.Source.{Source}
 use Rattle.session.specs.declared.nodes.Source.TheVariants.{Bus, Track}
-use Rattle.std.proofs.lemmas.List.{take_all, take_more}
-use Rattle.voices.proofs.Looks.{greatest_push}
+use Rattle.std.proofs.lemmas.Grind.{common_steps}
+use Rattle.std.proofs.lemmas.List.Recursion.{max_bounds, max_least}
 
 first : Node
-first = record { source = Track 0; unit = None }
-
-pub loop-node-preserved : goal.loop-node-preserved
-unfolding first
-loop-node-preserved g c =
-    let reel = g.L.Reel.tracks c.args.reel.now in
-    let nodes = c.args.nodes.now in
-    let k = c.loop-node.node-index in
-    let node = get_or nodes k first in
-    c.longer-most.ensures ∙ ap₂ max c.source_length.ensures c.loop-node.invariant
-    ∙ sym (ap (longest reel) (take_more nodes k first c.loop-node-test.true) ∙ greatest_push (λ (n : Node). source_length reel n.source) (take k nodes) node)
+first = record { source = Bus; unit = None }
 
 -- no source is longer than a track may be
 source_bound : (reel : Tracks) → ReelLaws reel → (s : Source) → source_length reel s ≤ 2147483647
 source_bound reel laws (Track track) = laws.bounded track
 source_bound reel laws Bus = omega arith
 
-longest_bound : (reel : Tracks) → ReelLaws reel → (nodes : List Node) → longest reel nodes ≤ 2147483647
-longest_bound reel laws [] = omega arith
-longest_bound reel laws (n ∷ ns) = omega (arith, source_bound reel laws n.source, longest_bound reel laws ns)
-
 pub returns : goal.returns
 returns g c =
     let reel = g.L.Reel.tracks c.args.reel.now in
+    let laws = g.L.Reel.lawful c.args.reel.now in
     let nodes = c.args.nodes.now in
-    let all : c.loop-node.most ≡ longest reel nodes = c.loop-node.invariant ∙ ap (longest reel) (take_all c.loop-node.node-index nodes (omega arith)) in
-    record { length = all; bound = omega (arith, all, longest_bound reel (g.L.Reel.lawful c.args.reel.now) nodes) }
+    let of = λ (n : Node). source_length reel n.source in
+    let bounds = max_bounds (longest reel) of refl (λ _ _. refl) nodes in
+    let least = max_least (longest reel) of refl (λ _ _. refl) nodes first c.unwrap_or.result (search rules) in
+    let length : c.unwrap_or.result ≡ longest reel nodes = grind (arith, common_steps, bounds, least) in
+    let bound = max_least (longest reel) of refl (λ _ _. refl) nodes first 2147483647 (λ i h. source_bound reel laws _) in
+    record { length = length; bound = omega arith }
