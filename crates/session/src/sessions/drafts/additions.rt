@@ -1,6 +1,7 @@
 ghost use Rattle.std.specs.Prelude.{◌≡◌, is_ok, if◌then◌else◌};
 ghost use Rattle.session.specs.Contents.{contents, free, line_fits, no_contents, node_fits, rate_fits, ready, with_line, with_node, with_rate};
-ghost use Rattle.session.specs.Drafts.{AnswersFit, LinesFull, NodesFull, draft};
+ghost use Rattle.session.specs.Drafts.{AnswersFit, LinesFull, NodesFull, draft, drafted};
+ghost use Rattle.session.specs.Held.{nothing};
 ghost use Rattle.session.specs.Sessions.{held};
 
 use crate::nodes::{Line, Node};
@@ -12,7 +13,8 @@ use std::alloc::Global;
 impl Draft {
     // A draft that holds nothing.
     pub fn new(heap: Global) -> Draft
-        ensures { draft result ≡ no_contents }
+        ensures contents { draft result ≡ no_contents }
+        ensures held { drafted result ≡ nothing }
     {
         Draft {
             rate: 0,
@@ -77,11 +79,6 @@ impl Draft {
         if self.rate == 0 || self.nodes.len() == 0 {
             return Session::empty(heap);
         }
-        Session {
-            rate: self.rate,
-            nodes: self.nodes,
-            lines: self.lines,
-            settings: self.settings,
-        }
+        Session { draft: self }
     }
 }

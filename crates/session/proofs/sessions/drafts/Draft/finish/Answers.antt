@@ -8,4 +8,4 @@ pub invariant_of-result : goal.invariant_of-result
 invariant_of-result c =
     let d = c.args.self in
     let m = d.nodes.ok.0 in
-    record { eight = d.eight; lawful = ∥∥₁_map d.lawful (λ r. inr (draft_full (drafted d) r (omega arith) (omega arith) d.eight)) }
+    record { lawful = ∥∥₁_map d.lawful (λ r. inr (draft_full (drafted d) r (omega arith) (omega arith) d.eight)) }
