@@ -1,7 +1,8 @@
 -- What is added to a draft keeps the rules.
-use Rattle.std.proofs.Common.{◌≡◌, ℕ, zero, suc, ◌+◌, ◌<◌, ◌≤◌, Bool, true, false, cond, not, List, [], ◌∷◌, ◌++◌, length, get_or, set, replicate, Some, None, Option, sym, refl, ap, ◌∙◌, subst, ⊎_elim, arith}
+use mathlib.Core.Logic.{∥∥₁_map}
+use Rattle.std.proofs.Common.{◌≡◌, ℕ, zero, suc, ◌+◌, ◌<◌, ◌≤◌, Bool, true, false, cond, not, List, [], ◌∷◌, ◌++◌, length, get_or, set, replicate, Some, None, Option, sym, refl, ap, ◌∙◌, subst, ap₂, inr, ⊎_elim, arith}
 use Rattle.session.specs.Contents.{bus_at, contents, effect, fits_unit, free, is_set, names_unit, used}
-use Rattle.session.specs.Held.{Held, Full, nothing, setting, suits, unset}
+use Rattle.session.specs.Held.{Held, Full, LawfulSession, nothing, setting, suits, unset}
 use Rattle.session.specs.Lawful.{LawfulDraft}
 use Rattle.session.specs.Plan.{KeepsRules, Plan, is_bus, line, node}
 use Rattle.session.specs.declared.nodes.Line.{Line}
@@ -154,3 +155,14 @@ draft_nothing = record {
   };
   suited = λ s k h. absurd (unset_not s k h);
 }
+
+-- the same, of a draft's parts as they stand in it
+pub lawful_empty : (ns : List Node) (ls : List Line) → ns ≡ [] → ls ≡ [] → ∥ LawfulDraft (record { rate = 0; plan = record { nodes = ns; lines = ls }; settings = replicate 8 unset }) ∥₁
+lawful_empty ns ls e f = ∣ subst LawfulDraft (sym (ap₂ (λ n l. record { rate = 0; plan = record { nodes = n; lines = l }; settings = replicate 8 unset }) e f)) draft_nothing ∣₁
+
+pub lawful_rate : (r n : ℕ) (p : Plan) (es : List Setting) → ∥ LawfulDraft (record { rate = r; plan = p; settings = es }) ∥₁ → 8000 ≤ n → n ≤ 192000
+    → ∥ LawfulDraft (record { rate = n; plan = p; settings = es }) ∥₁
+lawful_rate r n p es l a b = ∥∥₁_map l (λ k. draft_rate _ k n a b)
+
+pub lawful_full : (h : Held) → ∥ LawfulDraft h ∥₁ → 0 < h.rate → 1 ≤ length h.plan.nodes → length h.settings ≡ 8 → ∥ LawfulSession h ∥₁
+lawful_full h l a b e = ∥∥₁_map l (λ k. inr (draft_full h k a b e))

@@ -12,6 +12,7 @@ use std::alloc::Global;
 
 impl Draft {
     // A draft that holds nothing.
+    #[tactic(auto, using(crate::proofs::Drafting::lawful_empty))]
     pub fn new(heap: Global) -> Draft
         ensures contents { draft result ≡ no_contents }
         ensures held { drafted result ≡ nothing }
@@ -25,6 +26,7 @@ impl Draft {
     }
 
     // Sets the rate; it is unfit where it is not from 8,000 to 192,000.
+    #[tactic(auto, using(crate::proofs::Drafting::lawful_rate))]
     pub fn set_rate(&mut self, rate: u32) -> Result<(), DraftFault>
         ensures fits { result ≡ (if rate_fits rate then Ok tt else Err DraftFault.Unfit) }
         ensures after { draft self.new ≡ (if is_ok result then with_rate (draft self.old) rate else draft self.old) }
@@ -73,6 +75,7 @@ impl Draft {
     }
 
     // The session of a draft with a rate and a node; of another draft, the empty session.
+    #[tactic(auto, using(crate::proofs::Drafting::lawful_full))]
     pub fn finish(self, heap: Global) -> Session
         ensures { contents (held result) ≡ (if ready (draft self) then draft self else no_contents) }
     {
