@@ -46,6 +46,7 @@ impl Draft {
     }
 
     // Adds a node after the others.
+    #[tactic(auto, using(crate::proofs::Drafting::lawful_node))]
     pub fn add_node(&mut self, node: Node) -> Result<(), DraftFault>
         ensures fits { AnswersFit result (node_fits (draft self.old) node) }
         ensures after { draft self.new ≡ (if is_ok result then with_node (draft self.old) node else draft self.old) }
@@ -59,6 +60,7 @@ impl Draft {
     }
 
     // Adds a line after the others.
+    #[tactic(auto, using(crate::proofs::Drafting::lawful_line))]
     pub fn add_line(&mut self, line: Line) -> Result<(), DraftFault>
         ensures fits { AnswersFit result (line_fits (draft self.old) line) }
         ensures after { draft self.new ≡ (if is_ok result then with_line (draft self.old) line else draft self.old) }

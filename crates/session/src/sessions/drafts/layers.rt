@@ -27,7 +27,9 @@ impl Draft {
         if !is_for(s, &kind) || self.is_set(s) {
             return Err(DraftFault::Unfit);
         }
-        self.settings[usize::from(s)].kind = Some(kind);
+        let table = &mut self.settings;
+        let entry = &mut table[usize::from(s)];
+        entry.kind = Some(kind);
         Ok(())
     }
 
