@@ -1,9 +1,9 @@
 -- What is added to a draft keeps the rules.
 use mathlib.Core.Logic.{∥∥₁_map}
-use Rattle.std.proofs.Common.{◌≡◌, ℕ, zero, suc, ◌+◌, ◌<◌, ◌≤◌, Bool, true, false, cond, not, List, [], ◌∷◌, ◌++◌, length, get_or, set, replicate, Some, None, Option, sym, refl, ap, ◌∙◌, subst, ap₂, inr, ⊎_elim, arith}
+use Rattle.std.proofs.Common.{◌≡◌, ℕ, zero, suc, ◌+◌, ◌<◌, ◌≤◌, Bool, true, false, cond, not, List, [], ◌∷◌, ◌++◌, map, length, get_or, set, replicate, ℤ, is_some, Some, None, Option, sym, refl, ap, ◌∙◌, subst, ap₂, inr, ⊎_elim, arith}
 use Rattle.session.proofs.Entries.{fits_below, set_below}
-use Rattle.session.specs.Contents.{bus_at, contents, effect, fits_unit, free, is_set, names_unit, used}
-use Rattle.session.specs.Held.{Held, Full, LawfulSession, nothing, setting, suits, unset}
+use Rattle.session.specs.Contents.{bare, bus_at, contents, effect, entry, fits_unit, free, is_set, names_unit, used}
+use Rattle.session.specs.Held.{Held, LawfulSession, nothing, setting, suits, unset}
 use Rattle.session.specs.Lawful.{LawfulDraft}
 use Rattle.session.specs.Plan.{KeepsRules, Plan, is_bus, line, node}
 use Rattle.session.specs.declared.nodes.Line.{Line}
@@ -13,7 +13,7 @@ use Rattle.session.specs.declared.settings.Kind.{Kind}
 use Rattle.session.specs.declared.settings.Kind.TheVariants.{Fir, Limit, Pan, Delay}
 use Rattle.session.specs.declared.settings.Setting.{Setting}
 use Rattle.std.proofs.lemmas.Option.{same_Some}
-use Rattle.std.proofs.lemmas.List.{get_or_append_left, get_or_default, get_or_past, get_or_push, get_or-replicate, get_or-set_other, get_or-set_same, length_push}
+use Rattle.std.proofs.lemmas.List.{get_or_append_left, get_or_default, get_or_past, get_or_push, get_or-replicate, get_or-set_other, get_or-set_same, length-set, length_push}
 use Rattle.std.proofs.lemmas.Bool.{and_parts, both_ways, cases_eq, cases_lt, eq-eqb, ltb-true, not-true, or_parts}
 
 -- a kind and its plain numbers are for the same units
@@ -117,20 +117,23 @@ module _ (r : ℕ) (ns : List Node) (ls : List Line) (es : List Setting) (l : �
       either k false = k
 
 -- one entry written
-module _ (h : Held) (l : ∥ LawfulDraft h ∥₁) (eight : length h.settings ≡ 8) (s i : ℕ) (e : i ≡ s) (x : Setting) where
-  written : i < 8 → ((k : Kind) → LawfulDraft h → x.kind ≡ Some k → suits i k ≡ true) → ∥ LawfulDraft (record { rate = h.rate; plan = h.plan; settings = set h.settings i x }) ∥₁
-  written b f =
-      ∥∥₁_map l (λ r. record { least_rate = r.least_rate; most_rate = r.most_rate; keeps = r.keeps; suited = suited_set h.settings i x (omega arith) r.suited (λ k q. f k r q) })
+pub still_eight : (es : List Setting) (i : ℕ) (x : Setting) → length es ≡ 8 → length (set es i x) ≡ 8
+still_eight es i x e = length-set es i x ∙ e
 
-  pub lawful_kind : (k : Kind) → x.kind ≡ Some k → fits_unit s (effect k) ≡ true → ∥ LawfulDraft (record { rate = h.rate; plan = h.plan; settings = set h.settings i x }) ∥₁
-  lawful_kind k q f =
-      let b = fits_below s (effect k) f in
-      written (omega arith) (λ m r p. subst (λ y. suits i y ≡ true) (same_Some k m (sym q ∙ p)) (ap (λ j. suits j k) e ∙ sym (same_units s k) ∙ f))
+module _ (r : ℕ) (ns : List Node) (ls : List Line) (es : List Setting) (l : ∥ LawfulDraft (parts r ns ls es) ∥₁) (i s : ℕ) (e : i ≡ s) (eight : length es ≡ 8) where
+  written : i < 8 → (x : Setting) → ((k : Kind) → Suited es → x.kind ≡ Some k → suits i k ≡ true) → ∥ LawfulDraft (parts r ns ls (set es i x)) ∥₁
+  written b x f = ∥∥₁_map l (λ d. record { least_rate = d.least_rate; most_rate = d.most_rate; keeps = d.keeps; suited = suited_set es i x (omega arith) d.suited (λ k q. f k d.suited q) })
 
-  pub lawful_layer : (d : Setting) → x.kind ≡ (get_or h.settings i d).kind → is_set (contents h) s ≡ true → ∥ LawfulDraft (record { rate = h.rate; plan = h.plan; settings = set h.settings i x }) ∥₁
-  lawful_layer d q f =
-      let b = set_below h.settings s eight f in
-      written (omega arith) (λ k r p. r.suited i k (ap (λ y. y.kind) (get_or_default h.settings i unset d (omega arith)) ∙ sym q ∙ p))
+  pub lawful_kind : (k : Kind) (t : Option ℤ) (b : Bool) → fits_unit s (effect k) ≡ true → ∥ LawfulDraft (parts r ns ls (set es i (record { kind = Some k; trim = t; bypass = b }))) ∥₁
+  lawful_kind k t b f =
+      let u = fits_below s (effect k) f in
+      written (omega arith) _ (λ m a q. subst (λ y. suits i y ≡ true) (same_Some k m q) (ap (λ j. suits j k) e ∙ sym (same_units s k) ∙ f))
+
+  pub lawful_layer : (d : Setting) (t : Option ℤ) (b : Bool) → is_some (get_or (map entry es) s bare).set_to ≡ true
+      → ∥ LawfulDraft (parts r ns ls (set es i (record { kind = (get_or es i d).kind; trim = t; bypass = b }))) ∥₁
+  lawful_layer d t b f =
+      let u = set_below es s eight f in
+      written (omega arith) _ (λ k a q. a i k (ap (λ y. y.kind) (get_or_default es i unset d (omega arith)) ∙ q))
 
 pub lawful_full : (h : Held) → ∥ LawfulDraft h ∥₁ → 0 < h.rate → 1 ≤ length h.plan.nodes → length h.settings ≡ 8 → ∥ LawfulSession h ∥₁
 lawful_full h l a b e =

@@ -1,7 +1,6 @@
 -- The table of settings, entry by entry, in plain numbers.
 use Rattle.std.proofs.Common.{◌≡◌, ℕ, ◌<◌, ◌≤◌, true, List, map, length, get_or, set, ℤ, is_some, Some, sym, refl, ap, ◌∙◌, ap₂, ⊎_elim, arith}
-use Rattle.session.specs.Contents.{Effect, fir, limit, pan, delay, Entry, bare, bypassed, contents, effect, entry, entry_at, fits_unit, is_set, set_entry, trimmed, with_bypass, with_entry, with_trim, with_unit}
-use Rattle.session.specs.Held.{Held}
+use Rattle.session.specs.Contents.{Effect, fir, limit, pan, delay, Entry, bare, bypassed, effect, entry, fits_unit, set_entry, trimmed}
 use Rattle.session.specs.declared.settings.Kind.{Kind}
 use Rattle.session.specs.declared.settings.Setting.{Setting}
 use Rattle.std.proofs.lemmas.List.{get_or-map, get_or_past, length-map, map-set}
@@ -27,22 +26,20 @@ fits_below s (pan position) e = omega (arith, ltb-true s 6 (and_parts _ _ e).1)
 fits_below s (delay frames) e = omega (arith, ltb-true s 8 (and_parts _ _ e).1)
 
 -- one entry written
-module _ (h : Held) (eight : length h.settings ≡ 8) (s i : ℕ) (e : i ≡ s) (d : Setting) where
-  written : s < 8 → (x : Setting) (change : Entry → Entry) → entry x ≡ change (entry (get_or h.settings i d))
-      → contents (record { rate = h.rate; plan = h.plan; settings = set h.settings i x }) ≡ with_entry (contents h) s (change (entry_at (contents h) s))
+module _ (es : List Setting) (i s : ℕ) (d : Setting) (e : i ≡ s) (eight : length es ≡ 8) where
+  written : s < 8 → (x : Setting) (change : Entry → Entry) → entry x ≡ change (entry (get_or es i d)) → map entry (set es i x) ≡ set (map entry es) s (change (get_or (map entry es) s bare))
   written b x change q =
-      let l : s < length h.settings = omega arith in
-      ap (λ l. record { rate = h.rate; nodes = h.plan.nodes; lines = h.plan.lines; entries = l })
-      (map-set entry h.settings i x ∙ ap₂ (set (map entry h.settings)) e (q ∙ ap change (ap (λ j. entry (get_or h.settings j d)) e ∙ sym (entry_read h.settings s d l))))
+      let l : s < length es = omega arith in
+      map-set entry es i x ∙ ap₂ (set (map entry es)) e (q ∙ ap change (ap (λ j. entry (get_or es j d)) e ∙ sym (entry_read es s d l)))
 
   pub after_kind : (k : Kind) → fits_unit s (effect k) ≡ true
-      → contents (record { rate = h.rate; plan = h.plan; settings = set h.settings i (record (get_or h.settings i d) { kind = Some k }) }) ≡ with_unit (contents h) s (effect k)
+      → map entry (set es i (record (get_or es i d) { kind = Some k })) ≡ set (map entry es) s (record (get_or (map entry es) s bare) { set_to = Some (effect k) })
   after_kind k f = written (fits_below s (effect k) f) _ (λ y. set_entry y (effect k)) refl
 
-  pub after_trim : (g : ℤ) → is_set (contents h) s ≡ true
-      → contents (record { rate = h.rate; plan = h.plan; settings = set h.settings i (record (get_or h.settings i d) { trim = Some g }) }) ≡ with_trim (contents h) s g
-  after_trim g f = written (set_below h.settings s eight f) _ (λ y. trimmed y g) refl
+  pub after_trim : (g h : ℤ) → g ≡ h → is_some (get_or (map entry es) s bare).set_to ≡ true
+      → map entry (set es i (record (get_or es i d) { trim = Some g })) ≡ set (map entry es) s (record (get_or (map entry es) s bare) { trim = Some h })
+  after_trim g h q f = written (set_below es s eight f) _ (λ y. trimmed y h) (ap (λ z. trimmed (entry (get_or es i d)) z) q)
 
-  pub after_bypass : is_set (contents h) s ≡ true
-      → contents (record { rate = h.rate; plan = h.plan; settings = set h.settings i (record (get_or h.settings i d) { bypass = true }) }) ≡ with_bypass (contents h) s
-  after_bypass f = written (set_below h.settings s eight f) _ bypassed refl
+  pub after_bypass : is_some (get_or (map entry es) s bare).set_to ≡ true
+      → map entry (set es i (record (get_or es i d) { bypass = true })) ≡ set (map entry es) s (record (get_or (map entry es) s bare) { bypass = true })
+  after_bypass f = written (set_below es s eight f) _ bypassed refl
