@@ -1,5 +1,5 @@
 -- What a session or a draft holds, in plain numbers, and what each change makes of it.
-use Rattle.std.specs.Prelude.{ℕ, Bool, true, false, not, ◌&&◌, ◌||◌, List, [], ◌∷◌, ◌++◌, map, length, get_or, replicate, ℤ, is_some, Some, None, Option, ◌==◌, nat_le, nat_lt, slice_index_or, slice_set}
+use Rattle.std.specs.Prelude.{ℕ, Bool, true, false, not, ◌&&◌, List, [], ◌∷◌, ◌++◌, map, length, get_or, replicate, ℤ, is_some, Some, None, Option, ◌==◌, nat_le, nat_lt, slice_index_or, slice_set}
 use Rattle.session.specs.Held.{Held}
 use Rattle.session.specs.Plan.{is_bus}
 use Rattle.session.specs.declared.nodes.Line.{Line}
@@ -8,6 +8,7 @@ use Rattle.session.specs.declared.nodes.Source.TheVariants.{Bus}
 use Rattle.session.specs.declared.settings.Kind.{Kind}
 use Rattle.session.specs.declared.settings.Kind.TheVariants.{Fir, Limit, Pan, Delay}
 use Rattle.session.specs.declared.settings.Setting.{Setting}
+use Rattle.std.specs.List.{list_any}
 use Rattle.std.specs.Option.{option_map}
 
 -- A kind with its numbers: a fir's 31 places for taps and how many it has, a limit's lookahead and ceiling, a pan's
@@ -76,8 +77,7 @@ names_unit s (Some u) = u == s
 
 -- Whether some node has unit s.
 abbrev pub used : List Node → ℕ → Bool
-used [] s = false
-used (n ∷ ns) s = names_unit s n.unit || used ns s
+used ns s = list_any (λ n. names_unit s n.unit) ns
 
 -- Whether v is the number of a node that is a bus.
 abbrev pub bus_at : Contents → ℕ → Bool
