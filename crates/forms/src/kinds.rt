@@ -28,8 +28,8 @@ fn fill(words: &mut Words<'_>, taps: &mut [i16; 31], count: u8) -> Result<(), Re
     requires { count ≤ 31 }
     ensures { paired (λ _. taps.new) result (cursor words.new) ≡ taps_form 0 count taps.old (cursor words.old) }
 {
-    for i in 0..usize::from(count) {
-        taps[i] = gain(words)?;
+    for tap in &mut taps[..usize::from(count)] {
+        *tap = gain(words)?;
     }
     Ok(())
 }

@@ -17,7 +17,7 @@ pub enum Role {
 
 impl Role {
     // The greatest number in the role.
-    pub fn most(self) -> u32
+    pub(crate) fn most(self) -> u32
         ensures value { result ≡ role_most self }
         ensures bound { result ≤ 15 }
     {
@@ -28,7 +28,7 @@ impl Role {
     }
 
     // Whether a number fits what the draft holds.
-    pub fn fits(self, draft: &Draft, n: u8) -> bool
+    pub(crate) fn fits(self, draft: &Draft, n: u8) -> bool
         ensures { result ≡ role_fits (contents_of draft.now) self n }
     {
         match self {
