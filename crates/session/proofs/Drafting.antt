@@ -3,7 +3,6 @@ use Rattle.std.proofs.Common.{◌≡◌, ℕ, zero, suc, ◌+◌, ◌<◌, ◌�
 use Rattle.session.specs.Contents.{bus_at, contents, effect, fits_unit, free, is_set, names_unit, used}
 use Rattle.session.specs.Held.{Held, Full, nothing, setting, suits, unset}
 use Rattle.session.specs.Lawful.{LawfulDraft}
-use Rattle.session.specs.Tables.{with_kind}
 use Rattle.session.specs.Plan.{KeepsRules, Plan, is_bus, line, node}
 use Rattle.session.specs.declared.nodes.Line.{Line}
 use Rattle.session.specs.declared.nodes.Node.{Node}
@@ -11,7 +10,7 @@ use Rattle.session.specs.declared.nodes.Source.TheVariants.{Bus}
 use Rattle.session.specs.declared.settings.Kind.{Kind}
 use Rattle.session.specs.declared.settings.Kind.TheVariants.{Fir, Limit, Pan, Delay}
 use Rattle.session.specs.declared.settings.Setting.{Setting}
-use Rattle.std.proofs.lemmas.List.{get_or_append_left, get_or_past, get_or_push, get_or-replicate, get_or-set_other, get_or-set_same, length_push}
+use Rattle.std.proofs.lemmas.List.{get_or_append_left, get_or_default, get_or_past, get_or_push, get_or-replicate, get_or-set_other, get_or-set_same, length_push}
 use Rattle.std.proofs.lemmas.Bool.{and_parts, both_ways, cases_eq, cases_lt, eq-eqb, ltb-true, not-true, or_parts}
 
 -- a kind and its plain numbers are for the same units
@@ -102,15 +101,13 @@ module _ (h : Held) (r : LawfulDraft h) where
   pub draft_settings : (es : List Setting) → Suited es → LawfulDraft (record { rate = h.rate; plan = h.plan; settings = es })
   draft_settings es k = record { least_rate = r.least_rate; most_rate = r.most_rate; keeps = r.keeps; suited = k }
 
-  pub draft_kind : (es : List Setting) (s : ℕ) (k : Kind) → s < length h.settings → suits s k ≡ true → es ≡ set h.settings s (with_kind (get_or h.settings s unset) k)
-      → LawfulDraft (record { rate = h.rate; plan = h.plan; settings = es })
-  draft_kind es s k l f e =
-      draft_settings es (subst Suited (sym e) (suited_set h.settings s _ l r.suited (λ k' q. subst (λ x. suits s x ≡ true) (some_same k k' q) f)))
+  -- an entry written
+  module _ (i : ℕ) (l : i < length h.settings) (x : Setting) where
+    pub draft_kind : (k : Kind) → x.kind ≡ Some k → suits i k ≡ true → LawfulDraft (record { rate = h.rate; plan = h.plan; settings = set h.settings i x })
+    draft_kind k e f = draft_settings _ (suited_set h.settings i x l r.suited (λ m q. subst (λ y. suits i y ≡ true) (some_same k m (sym e ∙ q)) f))
 
-  pub draft_layer : (es : List Setting) (s : ℕ) (x : Setting) → s < length h.settings → x.kind ≡ (setting h.settings s).kind → es ≡ set h.settings s x
-      → LawfulDraft (record { rate = h.rate; plan = h.plan; settings = es })
-  draft_layer es s x l same e =
-      draft_settings es (subst Suited (sym e) (suited_set h.settings s x l r.suited (λ k q. r.suited s k (sym same ∙ q))))
+    pub draft_layer : (d : Setting) → x.kind ≡ (get_or h.settings i d).kind → LawfulDraft (record { rate = h.rate; plan = h.plan; settings = set h.settings i x })
+    draft_layer d e = draft_settings _ (suited_set h.settings i x l r.suited (λ k q. r.suited i k (ap (λ y. y.kind) (get_or_default h.settings i unset d l) ∙ sym e ∙ q)))
 
   module _ (n : Node) (few : length h.plan.nodes < 16) (ok : free (contents h) n.unit ≡ true) where
     pub draft_node : (added : Bool) (ns : List Node) → ns ≡ cond added (h.plan.nodes ++ n ∷ []) h.plan.nodes

@@ -1,8 +1,7 @@
 -- The table of settings, entry by entry, in plain numbers.
-use Rattle.std.proofs.Common.{◌≡◌, ℕ, ◌<◌, ◌≤◌, true, List, map, length, get_or, set, ℤ, is_some, sym, ap, ◌∙◌, ⊎_elim}
+use Rattle.std.proofs.Common.{◌≡◌, ℕ, ◌<◌, ◌≤◌, true, List, map, length, get_or, set, ℤ, is_some, Some, sym, ap, ◌∙◌, ap₂, ⊎_elim}
 use Rattle.session.specs.Contents.{Entry, bare, bypassed, contents, effect, entry, set_entry, trimmed, with_bypass, with_entry, with_trim, with_unit}
-use Rattle.session.specs.Held.{Held, unset}
-use Rattle.session.specs.Tables.{passed_by, with_gain, with_kind}
+use Rattle.session.specs.Held.{Held}
 use Rattle.session.specs.declared.settings.Kind.{Kind}
 use Rattle.session.specs.declared.settings.Setting.{Setting}
 use Rattle.std.proofs.lemmas.List.{get_or-map, get_or_past, length-map, map-set}
@@ -20,17 +19,20 @@ entry_past es s h = get_or_past (map entry es) s bare (rw (length-map es entry) 
 pub set_below : (es : List Setting) (s : ℕ) → length es ≡ 8 → is_some (get_or (map entry es) s bare).set_to ≡ true → s < 8
 set_below es s l h = ⊎_elim (λ lt. lt) (λ ge. absurd (both_ways _ (ap (λ e. is_some e.set_to) (entry_past es s (rw l ge))) h)) (cases_lt s 8)
 
-module _ (h : Held) (s : ℕ) (fits : s < length h.settings) (es : List Setting) where
-  after_entry : (e : Setting) (x : Entry) → es ≡ set h.settings s e → entry e ≡ x → contents (record { rate = h.rate; plan = h.plan; settings = es }) ≡ with_entry (contents h) s x
-  after_entry e x p q =
-      ap (λ l. record { rate = h.rate; nodes = h.plan.nodes; lines = h.plan.lines; entries = l })
-      (ap (map entry) p ∙ map-set entry h.settings s e ∙ ap (set (map entry h.settings) s) q)
+-- one entry written
+module _ (h : Held) (s : ℕ) (fits : s < length h.settings) (i : ℕ) (e : i ≡ s) where
+  after_entry : (x : Setting) (y : Entry) → entry x ≡ y → contents (record { rate = h.rate; plan = h.plan; settings = set h.settings i x }) ≡ with_entry (contents h) s y
+  after_entry x y q =
+      ap (λ l. record { rate = h.rate; nodes = h.plan.nodes; lines = h.plan.lines; entries = l }) (map-set entry h.settings i x ∙ ap₂ (set (map entry h.settings)) e q)
 
-  pub after_kind : (k : Kind) → es ≡ set h.settings s (with_kind (get_or h.settings s unset) k) → contents (record { rate = h.rate; plan = h.plan; settings = es }) ≡ with_unit (contents h) s (effect k)
-  after_kind k p = after_entry _ _ p (ap (λ x. set_entry x (effect k)) (sym (entry_read h.settings s unset fits)))
+  read : (d : Setting) → entry (get_or h.settings i d) ≡ get_or (map entry h.settings) s bare
+  read d = ap (λ j. entry (get_or h.settings j d)) e ∙ sym (entry_read h.settings s d fits)
 
-  pub after_trim : (g : ℤ) → es ≡ set h.settings s (with_gain (get_or h.settings s unset) g) → contents (record { rate = h.rate; plan = h.plan; settings = es }) ≡ with_trim (contents h) s g
-  after_trim g p = after_entry _ _ p (ap (λ x. trimmed x g) (sym (entry_read h.settings s unset fits)))
+  pub after_kind : (d : Setting) (k : Kind) → contents (record { rate = h.rate; plan = h.plan; settings = set h.settings i (record (get_or h.settings i d) { kind = Some k }) }) ≡ with_unit (contents h) s (effect k)
+  after_kind d k = after_entry _ _ (ap (λ x. set_entry x (effect k)) (read d))
 
-  pub after_bypass : es ≡ set h.settings s (passed_by (get_or h.settings s unset)) → contents (record { rate = h.rate; plan = h.plan; settings = es }) ≡ with_bypass (contents h) s
-  after_bypass p = after_entry _ _ p (ap bypassed (sym (entry_read h.settings s unset fits)))
+  pub after_trim : (d : Setting) (g : ℤ) → contents (record { rate = h.rate; plan = h.plan; settings = set h.settings i (record (get_or h.settings i d) { trim = Some g }) }) ≡ with_trim (contents h) s g
+  after_trim d g = after_entry _ _ (ap (λ x. trimmed x g) (read d))
+
+  pub after_bypass : (d : Setting) → contents (record { rate = h.rate; plan = h.plan; settings = set h.settings i (record (get_or h.settings i d) { bypass = true }) }) ≡ with_bypass (contents h) s
+  after_bypass d = after_entry _ _ (ap bypassed (read d))

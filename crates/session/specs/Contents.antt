@@ -8,6 +8,7 @@ use Rattle.session.specs.declared.nodes.Source.TheVariants.{Bus}
 use Rattle.session.specs.declared.settings.Kind.{Kind}
 use Rattle.session.specs.declared.settings.Kind.TheVariants.{Fir, Limit, Pan, Delay}
 use Rattle.session.specs.declared.settings.Setting.{Setting}
+use Rattle.std.specs.List.{list_any}
 use Rattle.std.specs.Option.{option_map}
 
 -- A kind with its numbers: a fir's 31 places for taps and how many it has, a limit's lookahead and ceiling, a pan's
@@ -76,8 +77,7 @@ names_unit s (Some u) = u == s
 
 -- Whether some node has unit s.
 abbrev pub used : List Node → ℕ → Bool
-used [] s = false
-used (n ∷ ns) s = names_unit s n.unit || used ns s
+used ns s = list_any (λ n. names_unit s n.unit) ns
 
 -- Whether v is the number of a node that is a bus.
 abbrev pub bus_at : Contents → ℕ → Bool

@@ -4,4 +4,3 @@ pub mod Held
 pub mod Lawful
 pub mod Plan
 pub mod Sessions
-pub mod Tables

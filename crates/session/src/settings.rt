@@ -16,3 +16,12 @@ pub struct Setting {
     pub trim: Option<i16>,
     pub bypass: bool,
 }
+
+impl Setting {
+    // A unit that is not set, without layers.
+    pub const UNSET: Setting = Setting {
+        kind: None,
+        trim: None,
+        bypass: false,
+    };
+}

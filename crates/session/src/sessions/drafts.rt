@@ -1,8 +1,10 @@
 ghost use Rattle.std.specs.Prelude.{◌≡◌, length};
 ghost use Rattle.session.specs.Lawful.{LawfulDraft};
+ghost use Rattle.session.specs.declared.sessions.drafts.DraftFault.TheVariants.{NoMemory};
 
 use crate::nodes::{Line, Node};
 use crate::settings::Setting;
+use std::alloc::AllocFailed;
 
 pub mod additions;
 pub mod layers;
@@ -19,9 +21,17 @@ pub struct Draft {
     ghost lawful: { ∥ LawfulDraft (record { rate = rate; plan = record { nodes = nodes.items; lines = lines.items }; settings = settings }) ∥₁ },
 }
 
-// Why a node or a line is not added.
-#[derive(Clone, Copy)]
+// Why an addition is not made.
+#[derive(Clone, Copy, PartialEq, Eq, Debug)]
 pub enum DraftFault {
     Unfit,
     NoMemory,
+}
+
+impl<T: Drop> From<AllocFailed<T>> for DraftFault {
+    ghost from_gives = { λ _ fault. fault ≡ NoMemory };
+
+    fn from(_: AllocFailed<T>) -> DraftFault {
+        DraftFault::NoMemory
+    }
 }

@@ -7,13 +7,6 @@ use crate::sessions::Session;
 use crate::settings::Setting;
 use std::alloc::Global;
 
-// A unit that is not set.
-const UNSET: Setting = Setting {
-    kind: None,
-    trim: None,
-    bypass: false,
-};
-
 impl Session {
     // The empty session.
     pub fn empty(heap: Global) -> Session
@@ -23,7 +16,7 @@ impl Session {
             rate: 0,
             nodes: Vec::new(heap),
             lines: Vec::new(heap),
-            settings: [UNSET; 8],
+            settings: [Setting::UNSET; 8],
         }
     }
 
@@ -50,6 +43,6 @@ impl Session {
     pub fn setting(&self, s: usize) -> Setting
         ensures { result ≡ setting (held self.now).settings s }
     {
-        if s < 8 { self.settings[s] } else { UNSET }
+        self.settings.get(s).copied().unwrap_or(Setting::UNSET)
     }
 }

@@ -9,12 +9,6 @@ use crate::sessions::drafts::{Draft, DraftFault};
 use crate::settings::Setting;
 use std::alloc::Global;
 
-const UNSET: Setting = Setting {
-    kind: None,
-    trim: None,
-    bypass: false,
-};
-
 impl Draft {
     // A draft that holds nothing.
     pub fn new(heap: Global) -> Draft
@@ -24,30 +18,27 @@ impl Draft {
             rate: 0,
             nodes: Vec::new(heap),
             lines: Vec::new(heap),
-            settings: [UNSET; 8],
+            settings: [Setting::UNSET; 8],
         }
     }
 
-    // Sets the rate; false where it is not from 8,000 to 192,000.
-    pub fn set_rate(&mut self, rate: u32) -> bool
-        ensures fits { result ≡ rate_fits rate }
-        ensures after { draft self.new ≡ (if result then with_rate (draft self.old) rate else draft self.old) }
+    // Sets the rate; it is unfit where it is not from 8,000 to 192,000.
+    pub fn set_rate(&mut self, rate: u32) -> Result<(), DraftFault>
+        ensures fits { result ≡ (if rate_fits rate then Ok tt else Err DraftFault.Unfit) }
+        ensures after { draft self.new ≡ (if is_ok result then with_rate (draft self.old) rate else draft self.old) }
     {
-        if 8000 <= rate && rate <= 192000 {
-            self.rate = rate;
-            return true;
+        if rate < 8000 || 192000 < rate {
+            return Err(DraftFault::Unfit);
         }
-        false
+        self.rate = rate;
+        Ok(())
     }
 
     // Whether a node's unit is set and no node has it.
     fn has_free(&self, unit: Option<u8>) -> bool
         ensures { result ≡ free (draft self.now) unit }
     {
-        match unit {
-            None => true,
-            Some(s) => self.is_set(s) && !self.is_used(s),
-        }
+        unit.is_none_or(|s| self.is_set(s) && !self.is_used(s))
     }
 
     // Adds a node after the others.
@@ -59,10 +50,8 @@ impl Draft {
         if self.nodes.len() >= 16 || !self.has_free(node.unit) {
             return Err(DraftFault::Unfit);
         }
-        match self.nodes.push(node) {
-            Ok(()) => Ok(()),
-            Err(_) => Err(DraftFault::NoMemory),
-        }
+        self.nodes.push(node)?;
+        Ok(())
     }
 
     // Adds a line after the others.
@@ -77,10 +66,8 @@ impl Draft {
         {
             return Err(DraftFault::Unfit);
         }
-        match self.lines.push(line) {
-            Ok(()) => Ok(()),
-            Err(_) => Err(DraftFault::NoMemory),
-        }
+        self.lines.push(line)?;
+        Ok(())
     }
 
     // The session of a draft with a rate and a node; of another draft, the empty session.

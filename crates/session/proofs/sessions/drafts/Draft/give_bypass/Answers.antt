@@ -1,4 +1,4 @@
-use Rattle.std.proofs.Common.{◌<◌, length, sym, refl, ap, ◌∙◌, arith, rules}
+use Rattle.std.proofs.Common.{◌<◌, length, sym, refl, ◌∙◌, arith}
 use mathlib.Core.Logic.{∥∥₁_map}
 use Rattle.session.proofs.Drafting.{draft_layer}
 use Rattle.session.proofs.Entries.{after_bypass, set_below}
@@ -6,19 +6,17 @@ use Rattle.session.proofs.sessions.drafts.Draft.give_bypass.Goals as goal
 use Rattle.session.specs.Drafts.{drafted}
 use Rattle.std.proofs.lemmas.List.{length-set}
 
-pub put_bypass-requires : goal.put_bypass-requires
-put_bypass-requires c = set_below c.args.self.now.settings c.args.s c.args.self.now.eight (sym c.is_set.ensures ∙ c.if-is_set.true)
-
 pub invariant_of-self : goal.invariant_of-self
 invariant_of-self c =
     let d = c.args.self.now in
-    let l : c.args.s < 8 = set_below d.settings c.args.s d.eight (sym c.is_set.ensures ∙ c.if-is_set.true) in
     let n = d.eight in
-    record { eight = ap length c.put_bypass.ensures ∙ length-set _ _ _ ∙ d.eight; lawful = ∥∥₁_map d.lawful (λ r. draft_layer (drafted d) r _ c.args.s _ (omega arith) refl c.put_bypass.ensures) }
+    let e = c.from.ensures in
+    let l = set_below d.settings c.args.s d.eight (sym c.is_set.ensures ∙ c.if-not-is_set.false) in
+    record { eight = length-set _ _ _ ∙ d.eight; lawful = ∥∥₁_map d.lawful (λ r. draft_layer (drafted d) r c.from.result (omega arith) _ _ refl) }
 
-pub returns-then-not-has_bypass : goal.returns-then-not-has_bypass
-returns-then-not-has_bypass c =
+pub returns-clause-after : goal.returns-clause-after
+returns-clause-after c =
     let d = c.args.self.now in
-    let l : c.args.s < 8 = set_below d.settings c.args.s d.eight (sym c.is_set.ensures ∙ c.if-is_set.true) in
     let n = d.eight in
-    record { fits = search rules; after = after_bypass (drafted d) c.args.s (omega arith) _ c.put_bypass.ensures }
+    let l = set_below d.settings c.args.s d.eight (sym c.is_set.ensures ∙ c.if-not-is_set.false) in
+    after_bypass (drafted d) c.args.s (omega arith) c.from.result c.from.ensures _
