@@ -7,7 +7,7 @@ use Rattle.words.specs.declared.faults.ReadFault.TheVariants.{Form}
 use Rattle.words.specs.declared.pieces.Pieces.{Pieces}
 use Rattle.words.specs.declared.words.Words.{Words}
 
-pub words_new : (ps : Pieces) (row : ℕ) (bytes : List ℕ) → pieces ps ≡ split 32 bytes → ps.at ≡ 0 → ps.bytes.now ≡ bytes → cursor (record { pieces = ps; line = row }) ≡ line_words row bytes
+pub words_new : (ps : Pieces) (row : ℕ) (bytes : List ℕ) → pieces ps ≡ split 32 bytes → ps.at ≡ 0 → ps.text.bytes.now ≡ bytes → cursor (record { pieces = ps; line = row }) ≡ line_words row bytes
 unfolding cursor
 words_new ps row bytes p a b = λ i. record { after = record { line = row; column = length (b i) + 1 }; items = placed row (a i + 1) (p i) }
 
@@ -24,7 +24,7 @@ pub lex_none : (w : Words) → pieces w.pieces ≡ [] → word (cursor w) ≡ Er
 unfolding cursor placed
 lex_none w e = ap (λ ps. first_word (cursor w).after (placed w.line (w.pieces.at + 1) ps)) e
 
-pub lex_some : (w v : Words) (bytes : List ℕ) → v.line ≡ w.line → v.pieces.bytes.now ≡ w.pieces.bytes.now → pieces w.pieces ≡ bytes ∷ pieces v.pieces
+pub lex_some : (w v : Words) (bytes : List ℕ) → v.line ≡ w.line → v.pieces.text.bytes.now ≡ w.pieces.text.bytes.now → pieces w.pieces ≡ bytes ∷ pieces v.pieces
     → v.pieces.at ≡ w.pieces.at + length bytes + 1
     → word (cursor w) ≡ Ok (record { word = spelling bytes; place = record { line = w.line; column = w.pieces.at + 1 } }, cursor v)
 unfolding cursor placed
@@ -37,7 +37,7 @@ lex_some w v bytes el eb e ea =
     ))
 
 -- the words that are left, by where they stand
-pub same_cursor : (w v : Words) → w.line ≡ v.line → w.pieces.bytes.now ≡ v.pieces.bytes.now → w.pieces.mark ≡ v.pieces.mark → w.pieces.at ≡ v.pieces.at → cursor w ≡ cursor v
+pub same_cursor : (w v : Words) → w.line ≡ v.line → w.pieces.text.bytes.now ≡ v.pieces.text.bytes.now → w.pieces.mark ≡ v.pieces.mark → w.pieces.at ≡ v.pieces.at → cursor w ≡ cursor v
 unfolding cursor pieces
 same_cursor w v el eb em ea i = record {
   after = record { line = el i; column = length (eb i) + 1 };
@@ -45,7 +45,7 @@ same_cursor w v el eb em ea i = record {
 }
 
 -- one word fewer
-pub lex_left : (w v : Words) (bytes : List ℕ) → v.line ≡ w.line → v.pieces.bytes.now ≡ w.pieces.bytes.now → pieces w.pieces ≡ bytes ∷ pieces v.pieces
+pub lex_left : (w v : Words) (bytes : List ℕ) → v.line ≡ w.line → v.pieces.text.bytes.now ≡ w.pieces.text.bytes.now → pieces w.pieces ≡ bytes ∷ pieces v.pieces
     → v.pieces.at ≡ w.pieces.at + length bytes + 1
     → cursor v ≡ without_first (cursor w)
 unfolding cursor placed

@@ -1,50 +1,42 @@
 -- Bytes of one class, one byte further.
-use Rattle.std.proofs.Common.{◌≡◌, ℕ, zero, suc, ◌+◌, ◌-◌, ◌*◌, ◌^◌, ◌<◌, ◌≤◌, Bool, true, false, cond, ◌&&◌, eqb, List, [], ◌∷◌, length, get_or, drop, ap, ◌∙◌, add-one, arith}
+use Rattle.std.proofs.Common.{◌≡◌, ℕ, zero, suc, ◌+◌, ◌-◌, ◌*◌, ◌^◌, ◌<◌, ◌≤◌, Bool, true, false, cond, not, ◌&&◌, eqb, List, [], ◌∷◌, length, get_or, drop, sym, refl, ap, ◌∙◌, ⊎_elim, add-one, arith}
 use native.Mathlib.Nat.{pow-succ'}
+use Rattle.std.specs.List.{position, position_or_len}
+use Rattle.std.specs.Option.{unwrap_or}
 use Rattle.std.proofs.lemmas.List.{at_drop_all, at_drop_more}
-use Rattle.std.proofs.lemmas.Bool.{and_parts, leb-true}
-use Rattle.words.specs.Bytes.{all_digits, all_letters, is_digit, is_known, is_letter, known_run}
+use Rattle.std.proofs.lemmas.List.Recursion.{is_position_or_len}
+use Rattle.std.proofs.lemmas.List.Sums.{prefix_len-le-length}
+use Rattle.std.proofs.lemmas.Bool.{and_parts, cases_lt, cond-false, cond-true, le-ltb, leb-true, lt-ltb}
+use Rattle.words.specs.Bytes.{all_digits, is_known, known_run}
 use Rattle.words.specs.Numbers.{read_on}
 use Rattle.words.specs.Pieces.{upto}
 
+-- the first place, or the length where there is none
+first_or_length : {X : Type 0} (p : X → Bool) (xs : List X) → unwrap_or (position p xs) (length xs) ≡ position_or_len p xs
+first_or_length p xs = ⊎_elim
+    (λ l. ap (λ o. unwrap_or o (length xs)) (cond-true _ _ _ (lt-ltb _ _ l)))
+    (λ g. ap (λ o. unwrap_or o (length xs)) (cond-false _ _ _ (le-ltb _ _ g)) ∙ (let m = prefix_len-le-length (λ x. not (p x)) xs in omega arith))
+    (cases_lt (position_or_len p xs) (length xs))
+
+-- where the first byte stands that is not known
+pub known_is : (xs : List ℕ) → unwrap_or (position (λ b. not (is_known b)) xs) (length xs) ≡ known_run xs
+unfolding known_run
+known_is xs = first_or_length _ xs ∙ sym (is_position_or_len known_run (λ b. not (is_known b)) refl (λ b bs. step (is_known b) (known_run bs)) xs)
+  where
+    step : (b : Bool) (n : ℕ) → cond b (suc n) zero ≡ cond (not b) 0 (1 + n)
+    step true n = omega arith
+    step false n = refl
+
+pub upto_is : (m : ℕ) (xs : List ℕ) → unwrap_or (position (λ b. eqb b m) xs) (length xs) ≡ upto m xs
+unfolding upto
+upto_is m xs = first_or_length _ xs ∙ sym (is_position_or_len (upto m) (λ b. eqb b m) refl (λ b bs. ap (cond (eqb b m) 0) (omega arith)) xs)
+
 module _ (xs : List ℕ) (i : ℕ) (h : i < length xs) where
-  pub digits_more : all_digits (drop i xs) ≡ (is_digit (get_or xs i 0) && all_digits (drop (i + 1) xs))
-  unfolding all_digits
-  digits_more = at_drop_more all_digits xs i 0 h
-
-  pub letters_more : all_letters (drop i xs) ≡ (is_letter (get_or xs i 0) && all_letters (drop (i + 1) xs))
-  unfolding all_letters
-  letters_more = at_drop_more all_letters xs i 0 h
-
-  pub known_more : known_run (drop i xs) ≡ cond (is_known (get_or xs i 0)) (suc (known_run (drop (i + 1) xs))) zero
-  unfolding known_run
-  known_more = at_drop_more known_run xs i 0 h
-
-  pub upto_more : (m : ℕ) → upto m (drop i xs) ≡ cond (eqb (get_or xs i 0) m) zero (suc (upto m (drop (i + 1) xs)))
-  unfolding upto
-  upto_more m = at_drop_more (upto m) xs i 0 h
-
   pub read_more : (n : ℕ) → read_on n (drop i xs) ≡ read_on (10 * n + (get_or xs i 0 - 48)) (drop (i + 1) xs)
   unfolding read_on
   read_more n = at_drop_more (read_on n) xs i 0 h
 
 module _ (xs : List ℕ) (i : ℕ) (h : length xs ≤ i) where
-  pub digits_end : all_digits (drop i xs) ≡ true
-  unfolding all_digits
-  digits_end = at_drop_all all_digits xs i h
-
-  pub letters_end : all_letters (drop i xs) ≡ true
-  unfolding all_letters
-  letters_end = at_drop_all all_letters xs i h
-
-  pub known_end : known_run (drop i xs) ≡ 0
-  unfolding known_run
-  known_end = at_drop_all known_run xs i h
-
-  pub upto_end : (m : ℕ) → upto m (drop i xs) ≡ 0
-  unfolding upto
-  upto_end m = at_drop_all (upto m) xs i h
-
   pub read_end : (n : ℕ) → read_on n (drop i xs) ≡ n
   unfolding read_on
   read_end n = at_drop_all (read_on n) xs i h

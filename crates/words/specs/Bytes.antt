@@ -1,5 +1,6 @@
 -- The bytes that a line may have.
-use Rattle.std.specs.Prelude.{ℕ, zero, suc, Bool, true, cond, ◌&&◌, ◌||◌, List, [], ◌∷◌, ◌==◌, nat_le}
+use Rattle.std.specs.Prelude.{ℕ, zero, suc, Bool, cond, ◌&&◌, ◌||◌, List, [], ◌∷◌, ◌==◌, nat_le}
+use Rattle.std.specs.List.{list_all}
 
 abbrev pub is_letter : ℕ → Bool
 is_letter b = nat_le 97 b && nat_le b 122
@@ -17,9 +18,7 @@ known_run [] = zero
 known_run (b ∷ bs) = cond (is_known b) (suc (known_run bs)) zero
 
 unfoldable pub all_letters : List ℕ → Bool
-all_letters [] = true
-all_letters (b ∷ bs) = is_letter b && all_letters bs
+all_letters bs = list_all is_letter bs
 
 unfoldable pub all_digits : List ℕ → Bool
-all_digits [] = true
-all_digits (b ∷ bs) = is_digit b && all_digits bs
+all_digits bs = list_all is_digit bs

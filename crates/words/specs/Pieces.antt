@@ -28,4 +28,4 @@ nothing_follows (p ∷ ps) = is_nil p && is_nil ps
 
 -- The pieces that are still to come.
 unfoldable pub pieces : Pieces → List (List ℕ)
-pieces p = cond (nat_le p.at (length p.bytes.now)) (split p.mark (drop p.at p.bytes.now)) []
+pieces p = cond (nat_le p.at (length p.text.bytes.now)) (split p.mark (drop p.at p.text.bytes.now)) []

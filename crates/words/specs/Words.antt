@@ -51,7 +51,7 @@ item t = record { word = spelt t.word; place = t.place }
 
 unfoldable pub cursor : Words → Cursor
 cursor w = record {
-  after = record { line = w.line; column = length w.pieces.bytes.now + 1 };
+  after = record { line = w.line; column = length w.pieces.text.bytes.now + 1 };
   items = placed w.line (w.pieces.at + 1) (pieces w.pieces);
 }
 

@@ -4,32 +4,20 @@ ghost use Rattle.words.specs.Bytes.{all_digits, all_letters, is_digit, is_known,
 fn is_letter(b: u8) -> bool
     ensures { result ≡ is_letter b }
 {
-    match char::from(b) {
-        'a'..='z' => true,
-        _ => false,
-    }
+    matches!(char::from(b), 'a'..='z')
 }
 
 fn is_digit(b: u8) -> bool
     ensures { result ≡ is_digit b }
 {
-    match char::from(b) {
-        '0'..='9' => true,
-        _ => false,
-    }
+    matches!(char::from(b), '0'..='9')
 }
 
 // A letter, a digit, a hyphen or a space.
 fn is_known(b: u8) -> bool
     ensures { result ≡ is_known b }
 {
-    match char::from(b) {
-        'a'..='z' => true,
-        '0'..='9' => true,
-        '-' => true,
-        ' ' => true,
-        _ => false,
-    }
+    matches!(char::from(b), 'a'..='z' | '0'..='9' | '-' | ' ')
 }
 
 // How many bytes stand before the first that is not known.
@@ -37,32 +25,20 @@ pub fn known_run(bytes: &[u8]) -> usize
     ensures value { result ≡ known_run bytes.now }
     ensures bound { result ≤ length bytes.now }
 {
-    for (i, b) in bytes.iter().enumerate() {
-        if !is_known(*b) {
-            return i;
-        }
-    }
-    bytes.len()
+    let found = bytes.iter().position(|b| !is_known(*b));
+    found.unwrap_or(bytes.len())
 }
 
+#[tactic(auto, unfolding(crate::specs::Bytes::all_letters))]
 pub fn all_letters(bytes: &[u8]) -> bool
     ensures { result ≡ all_letters bytes.now }
 {
-    for b in bytes {
-        if !is_letter(*b) {
-            return false;
-        }
-    }
-    true
+    bytes.iter().all(|b| is_letter(*b))
 }
 
+#[tactic(auto, unfolding(crate::specs::Bytes::all_digits))]
 pub fn all_digits(bytes: &[u8]) -> bool
     ensures { result ≡ all_digits bytes.now }
 {
-    for b in bytes {
-        if !is_digit(*b) {
-            return false;
-        }
-    }
-    true
+    bytes.iter().all(|b| is_digit(*b))
 }

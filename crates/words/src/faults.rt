@@ -1,17 +1,17 @@
 ghost use Rattle.std.specs.Prelude.{◌≡◌};
-ghost use Rattle.words.specs.Faults.{refusal};
+ghost use Rattle.words.specs.Faults.{at_place, refusal};
 
 use frames::refusals::{Fault, Layer, Refusal};
 
 // A line of the text and a column in it, both from 1.
-#[derive(Clone, Copy)]
+#[derive(Clone, Copy, PartialEq, Eq, Debug)]
 pub struct Place {
     pub line: usize,
     pub column: usize,
 }
 
 // Why a text is not read.
-#[derive(Clone, Copy)]
+#[derive(Clone, Copy, PartialEq, Eq, Debug)]
 pub enum ReadFault {
     // The text is longer than 16,384 bytes.
     Long,
@@ -36,25 +36,9 @@ pub enum ReadFault {
 }
 
 fn at(number: u8, place: &Place) -> Refusal
-    ensures { result ≡ record { number = number; layer = Layer.Text; first = place.now.line; second = place.now.column } }
+    ensures { result ≡ at_place number place.now }
 {
-    Refusal {
-        number,
-        layer: Layer::Text,
-        first: place.line,
-        second: place.column,
-    }
-}
-
-fn nowhere(number: u8) -> Refusal
-    ensures { result ≡ record { number = number; layer = Layer.Text; first = 0; second = 0 } }
-{
-    Refusal {
-        number,
-        layer: Layer::Text,
-        first: 0,
-        second: 0,
-    }
+    Refusal::new(number, Layer::Text, place.line, place.column)
 }
 
 impl Fault for ReadFault {
@@ -62,7 +46,7 @@ impl Fault for ReadFault {
 
     fn refusal(&self) -> Refusal {
         match self {
-            ReadFault::Long => nowhere(1),
+            ReadFault::Long => Refusal::new(1, Layer::Text, 0, 0),
             ReadFault::Byte(place) => at(2, place),
             ReadFault::Space(place) => at(3, place),
             ReadFault::First(place) => at(4, place),
@@ -71,7 +55,7 @@ impl Fault for ReadFault {
             ReadFault::Fit(place) => at(7, place),
             ReadFault::Full(place) => at(8, place),
             ReadFault::Rest(place) => at(9, place),
-            ReadFault::NoMemory => nowhere(0),
+            ReadFault::NoMemory => Refusal::new(0, Layer::Text, 0, 0),
         }
     }
 }

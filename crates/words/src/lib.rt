@@ -5,4 +5,5 @@ pub mod bytes;
 pub mod faults;
 mod numbers;
 pub mod pieces;
+pub mod shorts;
 pub mod words;

@@ -20,55 +20,40 @@ fn value(digits: &[u8]) -> u32
 fn is_well_spelt(digits: &[u8]) -> bool
     ensures { result ≡ well_spelt digits.now }
 {
-    let n = digits.len();
-    all_digits(digits) && n >= 1 && n <= 6 && (n == 1 || digits[0] != b'0')
+    all_digits(digits) && matches!(digits.len(), 1..=6) && (digits.len() == 1 || digits[0] != b'0')
 }
 
 // The number that digits write, where they are well spelt.
 pub fn whole(digits: &[u8]) -> Option<u32>
     ensures { result ≡ whole digits.now }
 {
-    if is_well_spelt(digits) {
-        Some(value(digits))
-    } else {
-        None
-    }
+    is_well_spelt(digits).then(|| value(digits))
 }
 
 fn is_negative(bytes: &[u8]) -> bool
-    ensures value { result ≡ is_negative bytes.now }
-    ensures some { result ≡ true → 1 ≤ length bytes.now }
+    ensures { result ≡ is_negative bytes.now }
 {
-    bytes.len() > 0 && bytes[0] == b'-'
+    bytes.starts_with(b"-")
 }
 
 // The digits of a number, without its hyphen.
 pub fn digits_of(bytes: &[u8]) -> &[u8]
     ensures { result.now ≡ unsigned bytes.now }
 {
-    if is_negative(bytes) {
-        &bytes[1..]
-    } else {
-        bytes
-    }
+    bytes.strip_prefix(b"-").unwrap_or(bytes)
 }
 
 fn positive(n: Option<u32>) -> Option<i16>
     ensures { result ≡ positive (between 0 32767 n) }
 {
-    match n {
-        Some(n) if n <= 32767 => Some(n as i16),
-        _ => None,
-    }
+    n.filter(|n| *n <= 32767).map(|n| n as i16)
 }
 
 fn negative(n: Option<u32>) -> Option<i16>
     ensures { result ≡ negative (between 1 32768 n) }
 {
-    match n {
-        Some(n) if 1 <= n && n <= 32768 => Some((-(n as i32)) as i16),
-        _ => None,
-    }
+    n.filter(|n| matches!(*n, 1..=32768))
+        .map(|n| (-(n as i32)) as i16)
 }
 
 // The gain that a hyphen and digits, or digits, write.

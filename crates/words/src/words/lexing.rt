@@ -7,14 +7,16 @@ use crate::bytes::{all_digits, all_letters};
 use crate::faults::{Place, ReadFault};
 use crate::numbers::digits_of;
 use crate::pieces::Pieces;
+use crate::shorts::Short;
 use crate::words::{Token, Word, Words};
 
 fn has_digits(bytes: &[u8]) -> bool
     ensures { result ≡ has_digits bytes.now }
 {
-    bytes.len() > 0 && all_digits(bytes)
+    !bytes.is_empty() && all_digits(bytes)
 }
 
+#[tactic(auto, unfolding(crate::specs::Words::spelling))]
 fn word_of(bytes: &[u8]) -> Word<'_>
     ensures { spelt result ≡ spelling bytes.now }
 {
@@ -29,12 +31,11 @@ fn word_of(bytes: &[u8]) -> Word<'_>
 
 impl<'a> Words<'a> {
     #[tactic(auto, using(crate::proofs::Lexing::words_new))]
-    pub fn new(bytes: &'a [u8], line: usize) -> Words<'a>
-        requires { length bytes.now ≤ 16384 }
-        ensures { cursor result ≡ line_words line bytes.now }
+    pub fn new(text: Short<'a>, line: usize) -> Words<'a>
+        ensures { cursor result ≡ line_words line text.entry.bytes.now }
     {
         Words {
-            pieces: Pieces::new(bytes, b' '),
+            pieces: Pieces::new(text, b' '),
             line,
         }
     }
@@ -53,19 +54,19 @@ impl<'a> Words<'a> {
         ensures left { cursor self.new ≡ without_first (cursor self.old) }
     {
         let column = self.pieces.at() + 1;
-        match self.pieces.next() {
-            Some(bytes) => Ok(Token {
-                word: word_of(bytes),
-                place: Place {
-                    line: self.line,
-                    column,
-                },
-            }),
-            None => Err(ReadFault::Form(Place {
+        let Some(piece) = self.pieces.next() else {
+            return Err(ReadFault::Form(Place {
                 line: self.line,
                 column: self.pieces.len() + 1,
-            })),
-        }
+            }));
+        };
+        Ok(Token {
+            word: word_of(piece.bytes()),
+            place: Place {
+                line: self.line,
+                column,
+            },
+        })
     }
 
     // No word may be left; an extra one is taken.

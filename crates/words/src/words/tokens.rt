@@ -8,42 +8,27 @@ use crate::faults::ReadFault;
 use crate::numbers::{gain, whole};
 use crate::words::{Token, Word};
 
-fn same(a: &[u8], b: &[u8]) -> bool
-    ensures { result ≡ bytes_eq a.now b.now }
-{
-    a == b
-}
-
 impl<'a> Token<'a> {
     // Whether the word is this name.
     pub fn is(&self, name: &[u8]) -> bool
         ensures { result ≡ is_name name.now (spelt self.now.word) }
     {
-        match self.word {
-            Word::Name(bytes) => same(bytes, name),
-            Word::Number(_) => false,
-            Word::Unknown(_) => false,
-        }
+        matches!(self.word, Word::Name(bytes) if bytes == name)
     }
 
     // Whether the word is the number 1.
     pub fn is_one(&self) -> bool
         ensures { result ≡ is_one (spelt self.now.word) }
     {
-        match self.word {
-            Word::Name(_) => false,
-            Word::Number(bytes) => same(bytes, b"1"),
-            Word::Unknown(_) => false,
-        }
+        matches!(self.word, Word::Number(bytes) if bytes == b"1".as_slice())
     }
 
     fn whole(&self) -> Option<u32>
         ensures { result ≡ whole_of (spelt self.now.word) }
     {
         match self.word {
-            Word::Name(_) => None,
             Word::Number(bytes) => whole(bytes),
-            Word::Unknown(_) => None,
+            _ => None,
         }
     }
 
@@ -51,9 +36,8 @@ impl<'a> Token<'a> {
         ensures { result ≡ gain_of (spelt self.now.word) }
     {
         match self.word {
-            Word::Name(_) => None,
             Word::Number(bytes) => gain(bytes),
-            Word::Unknown(_) => None,
+            _ => None,
         }
     }
 
@@ -62,19 +46,14 @@ impl<'a> Token<'a> {
         ensures value { result ≡ ok_or (between low high (whole_of (spelt self.now.word))) (ReadFault.Number self.now.place) }
         ensures range { IfOk result (λ n. (low ≤ n) × (n ≤ high)) }
     {
-        match self.whole() {
-            Some(n) if low <= n && n <= high => Ok(n),
-            _ => Err(ReadFault::Number(self.place)),
-        }
+        let within = self.whole().filter(|n| low <= *n && *n <= high);
+        within.ok_or(ReadFault::Number(self.place))
     }
 
     // The gain that the word spells.
     pub fn gain(&self) -> Result<i16, ReadFault>
         ensures { result ≡ ok_or (gain_of (spelt self.now.word)) (ReadFault.Number self.now.place) }
     {
-        match self.gain_value() {
-            Some(gain) => Ok(gain),
-            None => Err(ReadFault::Number(self.place)),
-        }
+        self.gain_value().ok_or(ReadFault::Number(self.place))
     }
 }

@@ -1,22 +1,12 @@
-use Rattle.std.proofs.Common.{sym, ◌∙◌, arith}
-use Rattle.std.proofs.lemmas.Bool.{cond-false, cond-true}
-use Rattle.words.proofs.Runs.{known_end, known_more}
+use Rattle.std.proofs.Common.{length, ap, ◌∙◌, rules, tests, not}
+use Rattle.std.proofs.lemmas.Iterator.{YieldsList-from_slice}
+use Rattle.std.proofs.lemmas.Iterator.Search.{position_from_yields_List}
+use Rattle.std.specs.Option.{unwrap_or}
+use Rattle.words.proofs.Runs.{known_is}
 use Rattle.words.proofs.bytes.known_run.Goals as goal
+use Rattle.words.specs.Bytes.{is_known}
 
-pub returns-then-not-is_known : goal.returns-then-not-is_known
-returns-then-not-is_known c =
-    let e = known_more c.args.bytes.now c.loop-i.i (omega arith) ∙ cond-false _ _ _ (sym c.is_known.ensures ∙ c.if-not-is_known.true) in
-    let i = c.loop-i.invariant in
-    record { value = omega arith; bound = omega arith }
-
-pub loop-i-preserved : goal.loop-i-preserved
-loop-i-preserved c =
-    let e = known_more c.args.bytes.now c.loop-i.i (omega arith) ∙ cond-true _ _ _ (sym c.is_known.ensures ∙ c.if-not-is_known.false) in
-    let i = c.loop-i.invariant in
-    omega arith
-
-pub returns : goal.returns
-returns c =
-    let e = known_end c.args.bytes.now c.loop-i.i (omega arith) in
-    let i = c.loop-i.invariant in
-    record { value = omega arith; bound = omega arith }
+pub returns-clause-value : goal.returns-clause-value
+returns-clause-value c =
+    let found = position_from_yields_List (λ b. not (is_known b)) _ _ c.position-found.result c.position-found.ensures.ran (YieldsList-from_slice c.args.bytes.now cc) (λ x b q k. search (rules, tests)) in
+    c.unwrap_or.ensures ∙ ap (λ o. unwrap_or o (length c.args.bytes.now)) found ∙ known_is c.args.bytes.now
