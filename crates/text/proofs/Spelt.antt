@@ -188,6 +188,3 @@ pub one_sound : (w : Spelling) → is_one w ≡ true → w ≡ number (49 ∷ []
 one_sound (name bs) h = absurd (false≢true h)
 one_sound (number bs) h = ap number ((bytes_eq-Decides bs (49 ∷ [])).0 h)
 one_sound (unknown bs) h = absurd (false≢true h)
-
-pub one_complete : (w : Spelling) → w ≡ number (49 ∷ []) → is_one w ≡ true
-one_complete w h = ap is_one h

@@ -15,7 +15,7 @@ pub enum Stage {
 }
 
 // The first word of a line.
-#[derive(Clone, Copy)]
+#[derive(Clone, Copy, PartialEq, Eq)]
 pub enum First {
     Session,
     Unit,
@@ -26,6 +26,7 @@ pub enum First {
     Other,
 }
 
+// The first word of a line. A match on byte strings was tried: the search leaves the arm of `session`, the longest.
 pub fn first_of(word: &Token<'_>) -> First
     ensures { result ≡ first_of (spelt word.now.word) }
 {
