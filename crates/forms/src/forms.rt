@@ -11,7 +11,7 @@ use session::sessions::drafts::Draft;
 use words::faults::ReadFault;
 use words::words::{Token, Words};
 
-// A unit's or a node's number. One word is taken, fit or not.
+// A unit's or a node's number. One word is taken, fit or not. Only the words are changed, so the draft is no part of them.
 pub fn numbered(draft: &Draft, role: Role, words: &mut Words<'_>) -> Result<u8, ReadFault>
     ensures value { paired (λ x. x) result (cursor words.new) ≡ numbered (contents_of draft.now) role (cursor words.old) }
     ensures fits { IfOk result (λ n. (n ≤ role_most role) × (role_fits (contents_of draft.now) role n ≡ true)) }

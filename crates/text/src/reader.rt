@@ -83,6 +83,7 @@ impl Reader {
         ensures { GivesOrWants (λ _. contents_of self.new.draft) result (lines_read 1 self.old.stage (contents_of self.old.draft) (split 10 text.entry.bytes.now)) (some_held 1 self.old.stage (contents_of self.old.draft) (split 10 text.entry.bytes.now) ≡ true) }
     {
         let mut lines = Pieces::new(text, b'\n');
+        // Counted by hand: the loop also asks the lines whether one is left, so no adapter may hold them.
         let mut row = 1;
         while let Some(line) = lines.next() {
             let ended = self.read_line(line, row, lines.is_done())?;

@@ -24,6 +24,7 @@ fn fitting(answer: Result<(), DraftFault>) -> Result<(), ReadFault>
     }
 }
 
+// The draft and the words stay two parameters: lent in one struct they make each clause longer, and leave a caller's proof.
 pub fn session_turn(draft: &mut Draft, words: &mut Words<'_>) -> Result<(), ReadFault>
     ensures exact { paired (λ _. contents_of draft.new) result (cursor words.new) ≡ session_turn (contents_of draft.old) (cursor words.old) }
     ensures stays { OnErr result (contents_of draft.new ≡ contents_of draft.old) }
