@@ -4,11 +4,12 @@ use Rattle.session.specs.Contents.{Contents, no_contents, ready, with_line, with
 use Rattle.session.specs.declared.nodes.Line as links
 use Rattle.session.specs.declared.nodes.Node as nodes
 use Rattle.std.proofs.ByRecursion.{All-append}
+use Rattle.std.proofs.lemmas.Option.{none-some, same_Some}
 use Rattle.std.proofs.lemmas.List.{length_push}
 use Rattle.std.proofs.lemmas.Bool.{and_from, cond-true, false≢true, le-leb, leb-true, lt-ltb}
 use Rattle.std.specs.List.{AllByRecursion}
 use Rattle.text.proofs.Commands.{FirstIs, end_complete, first_is, good_end, good_link, good_node, good_session, good_setup, layer_sound, link_complete, link_sound, node_complete, node_sound, session_complete, session_sound, setup_complete, unit_sound}
-use Rattle.text.proofs.Grammar.{none_is, not_ok, some_is}
+use Rattle.text.proofs.Grammar.{not_ok}
 use Rattle.text.proofs.Joining.{Free, join, join_split, line_join, lines_join, split_join}
 use Rattle.text.proofs.Lines.{lines_end, lines_more}
 use Rattle.text.proofs.Linewise.{Good, Says, free_line, line_complete, line_sound, same_words}
@@ -123,34 +124,34 @@ module _ (c : Contents) (row : ℕ) (ls : List (List ℕ)) (h : Contents) where
     step : (st : Stage) (f : firsts.First) (next : Stage) (d : Contents) → FirstIs f w → next_stage st f ≡ Some next → TurnRest f c d vs → After f next d → Rest st c (line_bytes ps ∷ ls) h
     step Head Session next d fw n t a =
         let s = session_sound c d vs t in
-        (s.0, s.1, s.2, ls, ap (λ z. z ∷ ls) (is_line _ (session_words s.0) fw s.4), subst (λ y. RestUnits y ls h) s.3 (subst (λ s. Rest s d ls h) (sym (some_is n)) a))
-    step Head Unit next d fw n t a = absurd (none_is n)
-    step Head Layer next d fw n t a = absurd (none_is n)
-    step Head Node next d fw n t a = absurd (none_is n)
-    step Head Line next d fw n t a = absurd (none_is n)
-    step Head End next d fw n t a = absurd (none_is n)
-    step Head Other next d fw n t a = absurd (none_is n)
-    step Units Session next d fw n t a = absurd (none_is n)
-    step Units Unit next d fw n t a = let s = unit_sound c d vs t in by_setup d next (some_is n) s.0 s.1 s.2 (is_line _ (setup_words s.0) fw s.3) a
-    step Units Layer next d fw n t a = let s = layer_sound c d vs t in by_setup d next (some_is n) s.0 s.1 s.2 (is_line _ (setup_words s.0) fw s.3) a
-    step Units Node next d fw n t a = let s = node_sound c d vs t in let q = by_node d next (some_is n) s.0 s.1 s.2 (is_line _ (node_words (length c.nodes) s.0) fw s.3) a in ([], q.0, q.1, q.2, tt, q.3, q.4, q.5, q.6)
-    step Units Line next d fw n t a = absurd (none_is n)
-    step Units End next d fw n t a = absurd (none_is n)
-    step Units Other next d fw n t a = absurd (none_is n)
-    step Nodes Session next d fw n t a = absurd (none_is n)
-    step Nodes Unit next d fw n t a = absurd (none_is n)
-    step Nodes Layer next d fw n t a = absurd (none_is n)
-    step Nodes Node next d fw n t a = let s = node_sound c d vs t in let q = by_node d next (some_is n) s.0 s.1 s.2 (is_line _ (node_words (length c.nodes) s.0) fw s.3) a in (q.0, q.1, q.3, q.4, q.5, q.6)
-    step Nodes Line next d fw n t a = let s = link_sound c d vs t in no_nodes (by_link d next (some_is n) s.0 s.1 s.2 (is_line _ (link_words s.0) fw s.3) a)
+        (s.0, s.1, s.2, ls, ap (λ z. z ∷ ls) (is_line _ (session_words s.0) fw s.4), subst (λ y. RestUnits y ls h) s.3 (subst (λ s. Rest s d ls h) (sym (same_Some _ _ n)) a))
+    step Head Unit next d fw n t a = absurd (none-some _ n)
+    step Head Layer next d fw n t a = absurd (none-some _ n)
+    step Head Node next d fw n t a = absurd (none-some _ n)
+    step Head Line next d fw n t a = absurd (none-some _ n)
+    step Head End next d fw n t a = absurd (none-some _ n)
+    step Head Other next d fw n t a = absurd (none-some _ n)
+    step Units Session next d fw n t a = absurd (none-some _ n)
+    step Units Unit next d fw n t a = let s = unit_sound c d vs t in by_setup d next (same_Some _ _ n) s.0 s.1 s.2 (is_line _ (setup_words s.0) fw s.3) a
+    step Units Layer next d fw n t a = let s = layer_sound c d vs t in by_setup d next (same_Some _ _ n) s.0 s.1 s.2 (is_line _ (setup_words s.0) fw s.3) a
+    step Units Node next d fw n t a = let s = node_sound c d vs t in let q = by_node d next (same_Some _ _ n) s.0 s.1 s.2 (is_line _ (node_words (length c.nodes) s.0) fw s.3) a in ([], q.0, q.1, q.2, tt, q.3, q.4, q.5, q.6)
+    step Units Line next d fw n t a = absurd (none-some _ n)
+    step Units End next d fw n t a = absurd (none-some _ n)
+    step Units Other next d fw n t a = absurd (none-some _ n)
+    step Nodes Session next d fw n t a = absurd (none-some _ n)
+    step Nodes Unit next d fw n t a = absurd (none-some _ n)
+    step Nodes Layer next d fw n t a = absurd (none-some _ n)
+    step Nodes Node next d fw n t a = let s = node_sound c d vs t in let q = by_node d next (same_Some _ _ n) s.0 s.1 s.2 (is_line _ (node_words (length c.nodes) s.0) fw s.3) a in (q.0, q.1, q.3, q.4, q.5, q.6)
+    step Nodes Line next d fw n t a = let s = link_sound c d vs t in no_nodes (by_link d next (same_Some _ _ n) s.0 s.1 s.2 (is_line _ (link_words s.0) fw s.3) a)
     step Nodes End next d fw n t a = no_nodes (by_end d t.0 (end_line t.1 fw) a)
-    step Nodes Other next d fw n t a = absurd (none_is n)
-    step Lines Session next d fw n t a = absurd (none_is n)
-    step Lines Unit next d fw n t a = absurd (none_is n)
-    step Lines Layer next d fw n t a = absurd (none_is n)
-    step Lines Node next d fw n t a = absurd (none_is n)
-    step Lines Line next d fw n t a = let s = link_sound c d vs t in (by_link d next (some_is n) s.0 s.1 s.2 (is_line _ (link_words s.0) fw s.3) a)
+    step Nodes Other next d fw n t a = absurd (none-some _ n)
+    step Lines Session next d fw n t a = absurd (none-some _ n)
+    step Lines Unit next d fw n t a = absurd (none-some _ n)
+    step Lines Layer next d fw n t a = absurd (none-some _ n)
+    step Lines Node next d fw n t a = absurd (none-some _ n)
+    step Lines Line next d fw n t a = let s = link_sound c d vs t in (by_link d next (same_Some _ _ n) s.0 s.1 s.2 (is_line _ (link_words s.0) fw s.3) a)
     step Lines End next d fw n t a = (by_end d t.0 (end_line t.1 fw) a)
-    step Lines Other next d fw n t a = absurd (none_is n)
+    step Lines Other next d fw n t a = absurd (none-some _ n)
 
   sound_line : (st : Stage) (l : List ℕ) → ((row : ℕ) (st : Stage) (d : Contents) → lines_read row st d ls ≡ Ok h → Rest st d ls h) → (r : Result Turned ReadFault) → line_read row st c l (is_nil ls) ≡ r
       → passes r (λ t. cond t.ended (closed row ls t.held) (lines_read (row + 1) t.stage t.held ls)) ≡ Ok h → Rest st c (l ∷ ls) h
@@ -314,5 +315,5 @@ pub by_lines : (text bytes : List ℕ) → Some bytes ≡ (if leb (length text) 
 by_lines text bytes h = go (leb (length text) 16384) h
   where
     go : (b : Bool) → Some bytes ≡ (if b then Some text else None) → cond b (lines_read 1 Head no_contents (split 10 text)) (Err Long) ≡ lines_read 1 Head no_contents (split 10 bytes)
-    go true e = ap (λ t. lines_read 1 Head no_contents (split 10 t)) (sym (some_is e))
-    go false e = absurd (none_is (sym e))
+    go true e = ap (λ t. lines_read 1 Head no_contents (split 10 t)) (sym (same_Some _ _ e))
+    go false e = absurd (none-some _ (sym e))
