@@ -1,4 +1,4 @@
-ghost use Rattle.std.specs.Prelude.{◌≡◌, ◌+◌, ◌-◌, ◌%◌, ◌<◌, ◌≤◌, true, length, IfOk};
+ghost use Rattle.std.specs.Prelude.{◌≡◌, ◌%◌, ◌≤◌, true, IfOk};
 ghost use Rattle.session.specs.Contents.{delay, effect, fir, fits_unit, limit, pan};
 ghost use Rattle.forms.specs.Forms.{count_form, delay_form, fir_form, kind_form, limit_form, pan_form, taps_form};
 ghost use Rattle.words.specs.Parsing.{paired};
