@@ -10,6 +10,7 @@ fn value(digits: &[u8]) -> u32
     requires short { length digits.now ≤ 6 }
     ensures { result ≡ read_on 0 digits.now }
 {
+    // A loop: the closure of a fold would be called at sums of which nothing is known.
     let mut n = 0u32;
     for d in digits {
         n = 10 * n + u32::from(*d - b'0');

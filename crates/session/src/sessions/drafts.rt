@@ -13,9 +13,9 @@ pub mod queries;
 // A session in the making. It keeps the rules of nodes, lines and settings at every moment.
 #[derive(Drop)]
 pub struct Draft {
-    rate: u32,
-    nodes: Vec<Node>,
-    lines: Vec<Line>,
+    pub(super) rate: u32,
+    pub(super) nodes: Vec<Node>,
+    pub(super) lines: Vec<Line>,
     settings: [Setting; 8],
     ghost eight: { length settings ≡ 8 },
     ghost lawful: { ∥ LawfulDraft (record { rate = rate; plan = record { nodes = nodes.items; lines = lines.items }; settings = settings }) ∥₁ },

@@ -4,6 +4,7 @@ ghost use Rattle.session.specs.Sessions.{held};
 
 use crate::nodes::{Line, Node};
 use crate::sessions::Session;
+use crate::sessions::drafts::Draft;
 use crate::settings::Setting;
 use std::alloc::Global;
 
@@ -13,10 +14,7 @@ impl Session {
         ensures { held result ≡ nothing }
     {
         Session {
-            rate: 0,
-            nodes: Vec::new(heap),
-            lines: Vec::new(heap),
-            settings: [Setting::UNSET; 8],
+            draft: Draft::new(heap),
         }
     }
 
@@ -24,25 +22,25 @@ impl Session {
     pub fn rate(&self) -> u32
         ensures { result ≡ (held self.now).rate }
     {
-        self.rate
+        self.draft.rate
     }
 
     pub fn nodes(&self) -> &[Node]
         ensures { result.now ≡ (held self.now).plan.nodes }
     {
-        self.nodes.as_slice()
+        self.draft.nodes.as_slice()
     }
 
     pub fn lines(&self) -> &[Line]
         ensures { result.now ≡ (held self.now).plan.lines }
     {
-        self.lines.as_slice()
+        self.draft.lines.as_slice()
     }
 
     // What unit `s` is set to; there are eight.
     pub fn setting(&self, s: usize) -> Setting
         ensures { result ≡ setting (held self.now).settings s }
     {
-        self.settings.get(s).copied().unwrap_or(Setting::UNSET)
+        self.draft.entry(s)
     }
 }

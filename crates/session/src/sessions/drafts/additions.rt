@@ -1,6 +1,7 @@
 ghost use Rattle.std.specs.Prelude.{◌≡◌, is_ok, if◌then◌else◌};
 ghost use Rattle.session.specs.Contents.{contents, free, line_fits, no_contents, node_fits, rate_fits, ready, with_line, with_node, with_rate};
-ghost use Rattle.session.specs.Drafts.{AnswersFit, LinesFull, NodesFull, draft};
+ghost use Rattle.session.specs.Drafts.{AnswersFit, LinesFull, NodesFull, draft, drafted};
+ghost use Rattle.session.specs.Held.{nothing};
 ghost use Rattle.session.specs.Sessions.{held};
 
 use crate::nodes::{Line, Node};
@@ -11,8 +12,10 @@ use std::alloc::Global;
 
 impl Draft {
     // A draft that holds nothing.
+    #[tactic(auto, using(crate::proofs::Drafting::lawful_empty))]
     pub fn new(heap: Global) -> Draft
-        ensures { draft result ≡ no_contents }
+        ensures contents { draft result ≡ no_contents }
+        ensures held { drafted result ≡ nothing }
     {
         Draft {
             rate: 0,
@@ -23,6 +26,7 @@ impl Draft {
     }
 
     // Sets the rate; it is unfit where it is not from 8,000 to 192,000.
+    #[tactic(auto, using(crate::proofs::Drafting::lawful_rate))]
     pub fn set_rate(&mut self, rate: u32) -> Result<(), DraftFault>
         ensures fits { result ≡ (if rate_fits rate then Ok tt else Err DraftFault.Unfit) }
         ensures after { draft self.new ≡ (if is_ok result then with_rate (draft self.old) rate else draft self.old) }
@@ -42,6 +46,7 @@ impl Draft {
     }
 
     // Adds a node after the others.
+    #[tactic(auto, using(crate::proofs::Drafting::lawful_node))]
     pub fn add_node(&mut self, node: Node) -> Result<(), DraftFault>
         ensures fits { AnswersFit result (node_fits (draft self.old) node) }
         ensures after { draft self.new ≡ (if is_ok result then with_node (draft self.old) node else draft self.old) }
@@ -55,6 +60,7 @@ impl Draft {
     }
 
     // Adds a line after the others.
+    #[tactic(auto, using(crate::proofs::Drafting::lawful_line))]
     pub fn add_line(&mut self, line: Line) -> Result<(), DraftFault>
         ensures fits { AnswersFit result (line_fits (draft self.old) line) }
         ensures after { draft self.new ≡ (if is_ok result then with_line (draft self.old) line else draft self.old) }
@@ -71,17 +77,13 @@ impl Draft {
     }
 
     // The session of a draft with a rate and a node; of another draft, the empty session.
+    #[tactic(auto, using(crate::proofs::Drafting::lawful_full))]
     pub fn finish(self, heap: Global) -> Session
         ensures { contents (held result) ≡ (if ready (draft self) then draft self else no_contents) }
     {
         if self.rate == 0 || self.nodes.len() == 0 {
             return Session::empty(heap);
         }
-        Session {
-            rate: self.rate,
-            nodes: self.nodes,
-            lines: self.lines,
-            settings: self.settings,
-        }
+        Session { draft: self }
     }
 }

@@ -20,6 +20,7 @@ fn is_for(s: u8, kind: &Kind) -> bool
 
 impl Draft {
     // Sets unit `s`; it is unfit where it is set before or the kind is not for it.
+    #[tactic(auto, using(crate::proofs::Drafting::still_eight, crate::proofs::Drafting::lawful_kind, crate::proofs::Entries::after_kind))]
     pub fn set_unit(&mut self, s: u8, kind: Kind) -> Result<(), DraftFault>
         ensures fits { result ≡ (if unit_fits (draft self.old) s (effect kind) then Ok tt else Err DraftFault.Unfit) }
         ensures after { draft self.new ≡ (if is_ok result then with_unit (draft self.old) s (effect kind) else draft self.old) }
@@ -27,11 +28,14 @@ impl Draft {
         if !is_for(s, &kind) || self.is_set(s) {
             return Err(DraftFault::Unfit);
         }
-        self.settings[usize::from(s)].kind = Some(kind);
+        let table = &mut self.settings;
+        let entry = &mut table[usize::from(s)];
+        entry.kind = Some(kind);
         Ok(())
     }
 
     // Gives a trim for unit `s`; it is unfit where the unit is not set or has one.
+    #[tactic(auto, using(crate::proofs::Drafting::still_eight, crate::proofs::Drafting::lawful_layer, crate::proofs::Entries::after_trim))]
     pub fn give_trim(&mut self, s: u8, trim: TrimSettings) -> Result<(), DraftFault>
         ensures fits { result ≡ (if trim_fits (draft self.old) s then Ok tt else Err DraftFault.Unfit) }
         ensures after { draft self.new ≡ (if is_ok result then with_trim (draft self.old) s trim.gain else draft self.old) }
@@ -46,6 +50,7 @@ impl Draft {
     }
 
     // Gives a bypass for unit `s`; it is unfit where the unit is not set or has one.
+    #[tactic(auto, using(crate::proofs::Drafting::still_eight, crate::proofs::Drafting::lawful_layer, crate::proofs::Entries::after_bypass))]
     pub fn give_bypass(&mut self, s: u8) -> Result<(), DraftFault>
         ensures fits { result ≡ (if bypass_fits (draft self.old) s then Ok tt else Err DraftFault.Unfit) }
         ensures after { draft self.new ≡ (if is_ok result then with_bypass (draft self.old) s else draft self.old) }

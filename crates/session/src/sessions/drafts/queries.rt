@@ -1,6 +1,7 @@
 ghost use Rattle.std.specs.Prelude.{◌≡◌, length, is_some};
 ghost use Rattle.session.specs.Contents.{bus_at, entry, entry_at, has_bypass, has_trim, is_set, names_unit, used};
-ghost use Rattle.session.specs.Drafts.{draft};
+ghost use Rattle.session.specs.Held.{setting};
+ghost use Rattle.session.specs.Drafts.{draft, drafted};
 
 use crate::nodes::Source;
 use crate::sessions::drafts::Draft;
@@ -8,34 +9,32 @@ use crate::settings::Setting;
 
 impl Draft {
     // The entry of unit `s`.
-    fn entry(&self, s: u8) -> Setting
-        ensures { entry result ≡ entry_at (draft self.now) s }
+    pub(crate) fn entry(&self, s: usize) -> Setting
+        ensures value { result ≡ setting (drafted self.now).settings s }
+        ensures plain { entry result ≡ entry_at (draft self.now) s }
     {
-        self.settings
-            .get(usize::from(s))
-            .copied()
-            .unwrap_or(Setting::UNSET)
+        self.settings.get(s).copied().unwrap_or(Setting::UNSET)
     }
 
     // Whether unit `s` is set.
     pub fn is_set(&self, s: u8) -> bool
         ensures { result ≡ is_set (draft self.now) s }
     {
-        self.entry(s).kind.is_some()
+        self.entry(usize::from(s)).kind.is_some()
     }
 
     // Whether a trim is given for unit `s`.
     pub fn has_trim(&self, s: u8) -> bool
         ensures { result ≡ has_trim (draft self.now) s }
     {
-        self.entry(s).trim.is_some()
+        self.entry(usize::from(s)).trim.is_some()
     }
 
     // Whether a bypass is given for unit `s`.
     pub fn has_bypass(&self, s: u8) -> bool
         ensures { result ≡ has_bypass (draft self.now) s }
     {
-        self.entry(s).bypass
+        self.entry(usize::from(s)).bypass
     }
 
     // Whether some node has unit `s`.
