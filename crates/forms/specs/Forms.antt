@@ -1,5 +1,5 @@
 -- The forms of the lines, word by word.
-use Rattle.std.specs.Prelude.{ℕ, zero, suc, ◌+◌, ◌%◌, Bool, true, false, cond, not, ◌&&◌, List, [], ◌∷◌, length, replicate, ℤ, pos, Some, None, Ok, codes, Option, Result, ◌==◌, nat_lt, slice_set}
+use Rattle.std.specs.Prelude.{ℕ, zero, suc, ◌+◌, ◌%◌, Bool, cond, not, ◌&&◌, List, [], ◌∷◌, length, replicate, ℤ, pos, Some, None, Ok, codes, Option, Result, ◌==◌, nat_lt, slice_set}
 use Rattle.session.specs.Contents.{Contents, Effect, bus_at, delay, fir, has_bypass, has_trim, is_set, limit, pan, used, with_bypass, with_trim}
 use Rattle.session.specs.declared.nodes.Line.{Line}
 use Rattle.session.specs.declared.nodes.Node.{Node}
@@ -60,30 +60,6 @@ pan_form = keyword (codes "pan") >> (ranged 0 256 >>= (λ p. give (pan p)))
 
 abbrev pub delay_form : Parse Effect
 delay_form = keyword (codes "delay") >> (ranged 0 63 >>= (λ k. give (delay k)))
-
-abbrev pub is_fir : Effect → Bool
-is_fir (fir taps count) = true
-is_fir (limit a c) = false
-is_fir (pan p) = false
-is_fir (delay k) = false
-
-abbrev pub is_limit : Effect → Bool
-is_limit (fir taps count) = false
-is_limit (limit a c) = true
-is_limit (pan p) = false
-is_limit (delay k) = false
-
-abbrev pub is_pan : Effect → Bool
-is_pan (fir taps count) = false
-is_pan (limit a c) = false
-is_pan (pan p) = true
-is_pan (delay k) = false
-
-abbrev pub is_delay : Effect → Bool
-is_delay (fir taps count) = false
-is_delay (limit a c) = false
-is_delay (pan p) = false
-is_delay (delay k) = true
 
 -- The kind that unit s has to have.
 abbrev pub kind_form : ℕ → Parse Effect

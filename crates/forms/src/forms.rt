@@ -5,21 +5,21 @@ ghost use Rattle.forms.specs.Forms.{joined_form, line_form, node_form, numbered,
 ghost use Rattle.words.specs.Parsing.{gain_word, keyword, paired, ranged, without_first};
 ghost use Rattle.words.specs.Words.{cursor, item};
 
-use crate::roles::{Role, fits, most};
+use crate::roles::Role;
 use session::nodes::{Line, Node, Source};
 use session::sessions::drafts::Draft;
 use words::faults::ReadFault;
 use words::words::{Token, Words};
 
-// A unit's or a node's number. One word is taken, fit or not.
+// A unit's or a node's number. One word is taken, fit or not. Only the words are changed, so the draft is no part of them.
 pub fn numbered(draft: &Draft, role: Role, words: &mut Words<'_>) -> Result<u8, ReadFault>
     ensures value { paired (λ x. x) result (cursor words.new) ≡ numbered (contents_of draft.now) role (cursor words.old) }
     ensures fits { IfOk result (λ n. (n ≤ role_most role) × (role_fits (contents_of draft.now) role n ≡ true)) }
     ensures left { cursor words.new ≡ without_first (cursor words.old) }
 {
     let word = words.word()?;
-    let n = word.number(0, most(role))? as u8;
-    if !fits(draft, role, n) {
+    let n = word.number(0, role.most())? as u8;
+    if !role.fits(draft, n) {
         return Err(ReadFault::Fit(word.place));
     }
     Ok(n)
@@ -126,19 +126,12 @@ fn joined(draft: &Draft, words: &mut Words<'_>) -> Result<Line, ReadFault>
     Ok(Line { start, end, gain })
 }
 
-// Whether one line more can be held.
-fn has_room(draft: &Draft) -> bool
-    ensures { result ≡ nat_lt (length (contents_of draft.now).lines) 48 }
-{
-    draft.line_count() < 48
-}
-
 // A line; `word` is the first word of its text.
 pub fn line(draft: &Draft, word: &Token<'_>, words: &mut Words<'_>) -> Result<Line, ReadFault>
     ensures value { paired (λ x. x) result (cursor words.new) ≡ line_form (contents_of draft.now) (item word.now) (cursor words.old) }
     ensures fits { IfOk result (λ l. line_fits (contents_of draft.now) l ≡ true) }
 {
-    if !has_room(draft) {
+    if draft.line_count() >= 48 {
         return Err(ReadFault::Full(word.place));
     }
     joined(draft, words)

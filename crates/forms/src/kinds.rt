@@ -1,6 +1,6 @@
-ghost use Rattle.std.specs.Prelude.{◌≡◌, ◌+◌, ◌-◌, ◌%◌, ◌<◌, ◌≤◌, true, length, IfOk};
-ghost use Rattle.session.specs.Contents.{effect, fits_unit};
-ghost use Rattle.forms.specs.Forms.{count_form, delay_form, fir_form, is_delay, is_fir, is_limit, is_pan, kind_form, limit_form, pan_form, taps_form};
+ghost use Rattle.std.specs.Prelude.{◌≡◌, ◌%◌, ◌≤◌, true, IfOk};
+ghost use Rattle.session.specs.Contents.{delay, effect, fir, fits_unit, limit, pan};
+ghost use Rattle.forms.specs.Forms.{count_form, delay_form, fir_form, kind_form, limit_form, pan_form, taps_form};
 ghost use Rattle.words.specs.Parsing.{paired};
 ghost use Rattle.words.specs.Words.{cursor};
 
@@ -28,73 +28,63 @@ fn fill(words: &mut Words<'_>, taps: &mut [i16; 31], count: u8) -> Result<(), Re
     requires { count ≤ 31 }
     ensures { paired (λ _. taps.new) result (cursor words.new) ≡ taps_form 0 count taps.old (cursor words.old) }
 {
-    for i in 0..usize::from(count) {
-        taps[i] = gain(words)?;
+    for tap in &mut taps[..usize::from(count)] {
+        *tap = gain(words)?;
     }
     Ok(())
 }
 
-fn fir(words: &mut Words<'_>) -> Result<Kind, ReadFault>
-    ensures value { paired effect result (cursor words.new) ≡ fir_form (cursor words.old) }
-    ensures kind { IfOk result (λ k. is_fir (effect k) ≡ true) }
+fn fir(words: &mut Words<'_>) -> Result<FirSettings, ReadFault>
+    ensures { paired (λ s. fir s.taps s.count) result (cursor words.new) ≡ fir_form (cursor words.old) }
 {
     keyword(words, b"fir")?;
     let count = count(words)?;
     let mut taps = [0; 31];
     fill(words, &mut taps, count)?;
-    match FirSettings::new(taps, count) {
-        Some(settings) => Ok(Kind::Fir(settings)),
-        None => unreachable(),
-    }
+    Ok(FirSettings { taps, count })
 }
 
-fn limit(words: &mut Words<'_>) -> Result<Kind, ReadFault>
-    ensures value { paired effect result (cursor words.new) ≡ limit_form (cursor words.old) }
-    ensures kind { IfOk result (λ k. is_limit (effect k) ≡ true) }
+fn limit(words: &mut Words<'_>) -> Result<LimitSettings, ReadFault>
+    ensures { paired (λ s. limit s.lookahead s.ceiling) result (cursor words.new) ≡ limit_form (cursor words.old) }
 {
     keyword(words, b"limit")?;
     let lookahead = ranged(words, 0, 63)?;
     let ceiling = ranged(words, 1, 32767)?;
-    match LimitSettings::new(lookahead as u8, ceiling as u16) {
-        Some(settings) => Ok(Kind::Limit(settings)),
-        None => unreachable(),
-    }
+    Ok(LimitSettings {
+        lookahead: lookahead as u8,
+        ceiling: ceiling as u16,
+    })
 }
 
-fn pan(words: &mut Words<'_>) -> Result<Kind, ReadFault>
-    ensures value { paired effect result (cursor words.new) ≡ pan_form (cursor words.old) }
-    ensures kind { IfOk result (λ k. is_pan (effect k) ≡ true) }
+fn pan(words: &mut Words<'_>) -> Result<PanSettings, ReadFault>
+    ensures { paired (λ s. pan s.position) result (cursor words.new) ≡ pan_form (cursor words.old) }
 {
     keyword(words, b"pan")?;
     let position = ranged(words, 0, 256)?;
-    match PanSettings::new(position as u16) {
-        Some(settings) => Ok(Kind::Pan(settings)),
-        None => unreachable(),
-    }
+    Ok(PanSettings {
+        position: position as u16,
+    })
 }
 
-fn delay(words: &mut Words<'_>) -> Result<Kind, ReadFault>
-    ensures value { paired effect result (cursor words.new) ≡ delay_form (cursor words.old) }
-    ensures kind { IfOk result (λ k. is_delay (effect k) ≡ true) }
+fn delay(words: &mut Words<'_>) -> Result<DelaySettings, ReadFault>
+    ensures { paired (λ s. delay s.frames) result (cursor words.new) ≡ delay_form (cursor words.old) }
 {
     keyword(words, b"delay")?;
     let frames = ranged(words, 0, 63)?;
-    match DelaySettings::new(frames as u8) {
-        Some(settings) => Ok(Kind::Delay(settings)),
-        None => unreachable(),
-    }
+    Ok(DelaySettings {
+        frames: frames as u8,
+    })
 }
 
-// The kind that unit `s` has to have, with its settings.
+// The kind that unit `s` has to have, with its settings; from 6 on, a delay.
 pub fn kind(words: &mut Words<'_>, s: u8) -> Result<Kind, ReadFault>
-    requires { s ≤ 7 }
     ensures value { paired effect result (cursor words.new) ≡ kind_form s (cursor words.old) }
-    ensures fits { IfOk result (λ k. fits_unit s (effect k) ≡ true) }
+    ensures fits { s ≤ 7 → IfOk result (λ k. fits_unit s (effect k) ≡ true) }
 {
     match s {
-        0..=1 => fir(words),
-        2..=3 => limit(words),
-        4..=5 => pan(words),
-        _ => delay(words),
+        0..=1 => Ok(Kind::Fir(fir(words)?)),
+        2..=3 => Ok(Kind::Limit(limit(words)?)),
+        4..=5 => Ok(Kind::Pan(pan(words)?)),
+        _ => Ok(Kind::Delay(delay(words)?)),
     }
 }

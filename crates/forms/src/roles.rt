@@ -15,31 +15,29 @@ pub enum Role {
     BusNode,
 }
 
-// The greatest number in a role.
-pub fn most(role: Role) -> u32
-    ensures value { result ≡ role_most role }
-    ensures bound { result ≤ 15 }
-{
-    match role {
-        Role::NewUnit => 7,
-        Role::SetUnit => 7,
-        Role::FreeUnit => 7,
-        Role::NextNode => 15,
-        Role::AnyNode => 15,
-        Role::BusNode => 15,
+impl Role {
+    // The greatest number in the role.
+    pub(crate) fn most(self) -> u32
+        ensures value { result ≡ role_most self }
+        ensures bound { result ≤ 15 }
+    {
+        match self {
+            Role::NewUnit | Role::SetUnit | Role::FreeUnit => 7,
+            Role::NextNode | Role::AnyNode | Role::BusNode => 15,
+        }
     }
-}
 
-// Whether a number fits what the draft holds.
-pub fn fits(draft: &Draft, role: Role, n: u8) -> bool
-    ensures { result ≡ role_fits (contents_of draft.now) role n }
-{
-    match role {
-        Role::NewUnit => !draft.is_set(n),
-        Role::SetUnit => draft.is_set(n),
-        Role::FreeUnit => draft.is_set(n) && !draft.is_used(n),
-        Role::NextNode => usize::from(n) == draft.node_count(),
-        Role::AnyNode => usize::from(n) < draft.node_count(),
-        Role::BusNode => draft.is_bus(n),
+    // Whether a number fits what the draft holds.
+    pub(crate) fn fits(self, draft: &Draft, n: u8) -> bool
+        ensures { result ≡ role_fits (contents_of draft.now) self n }
+    {
+        match self {
+            Role::NewUnit => !draft.is_set(n),
+            Role::SetUnit => draft.is_set(n),
+            Role::FreeUnit => draft.is_set(n) && !draft.is_used(n),
+            Role::NextNode => usize::from(n) == draft.node_count(),
+            Role::AnyNode => usize::from(n) < draft.node_count(),
+            Role::BusNode => draft.is_bus(n),
+        }
     }
 }

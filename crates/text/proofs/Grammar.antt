@@ -1,5 +1,6 @@
 -- What the steps of a form accept, as rules over the words that are left.
 use Rattle.std.proofs.Common.{◌≡◌, ℕ, Bool, true, false, cond, List, [], ◌∷◌, map, Some, None, Ok, Err, MatchBool, Option, Result, sym, refl, ap, ◌∙◌, subst, subst₂, arith}
+use Rattle.std.proofs.lemmas.Option.{none-some, same_Some}
 use Rattle.std.proofs.lemmas.Bool.{false≢true}
 use Rattle.words.specs.Parsing.{Parse, ◌>>=◌, ◌>>◌, ask, asked, first_word, give, no_more, nothing_left, refuse, then, word}
 use Rattle.words.specs.Words.{Cursor, Item, Spelling}
@@ -46,25 +47,16 @@ ends_word {Y} G M each = record { sound = λ k x k' h. sound k.after k.items x k
 pub ends_to : {Y : Type 0} {p : Parse Y} {L : Y → List Spelling → Type 0} (M : Y → List Spelling → Type 0) → Ends p L → ((y : Y) (ws : List Spelling) → L y ws → M y ws) → ((y : Y) (ws : List Spelling) → M y ws → L y ws) → Ends p M
 ends_to M r to from = record { sound = λ k x k' h. to x _ (r.sound k x k' h); complete = λ k x h. r.complete k x (from x _ h) }
 
-pub ends_as : {Y : Type 0} (p : Parse Y) (L M : Y → List Spelling → Type 0) → ((y : Y) (ws : List Spelling) → L y ws → M y ws) → ((y : Y) (ws : List Spelling) → M y ws → L y ws) → Ends p L → Ends p M
-ends_as p L M to from r = record { sound = λ k x k' h. to x _ (r.sound k x k' h); complete = λ k x h. r.complete k x (from x _ h) }
-
 pub ends_ask : {Y : Type 0} (b : Bool) (e : ReadFault) (p : Parse Y) (L : Y → List Spelling → Type 0) → Ends p L → Ends (ask b e >> p) (λ y ws. (b ≡ true) × L y ws)
 ends_ask {Y} true e p L r = record { sound = λ k x k' h. (refl, r.sound k x k' h); complete = λ k x h. r.complete k x h.1 }
 ends_ask {Y} false e p L r = record { sound = λ k x k' h. absurd (not_ok h); complete = λ k x h. absurd (false≢true h.0) }
 
-pub some_is : {X : Type 0} {x y : X} → ◌≡◌ {A = Option X} (Some x) (Some y) → x ≡ y
-some_is e = cc
-
-pub none_is : {X : Type 0} {x : X} → ◌≡◌ {A = Option X} None (Some x) → ⊥
-none_is e = let z : ◌≡◌ {A = ℕ} 0 1 = cc in omega arith
-
 pub ends_asked : {X Y : Type 0} (o : Option X) (e : ReadFault) (f : X → Parse Y) (M : X → Y → List Spelling → Type 0) → ((x : X) → Ends (f x) (M x))
     → Ends (asked o e >>= f) (λ y ws. (x : X) × (o ≡ Some x) × M x y ws)
-ends_asked None e f M each = record { sound = λ k y k' h. absurd (not_ok h); complete = λ k y h. absurd (none_is h.1) }
+ends_asked None e f M each = record { sound = λ k y k' h. absurd (not_ok h); complete = λ k y h. absurd (none-some _ h.1) }
 ends_asked (Some x) e f M each = record {
   sound = λ k y k' h. (x, refl, (each x).sound k y k' h);
-  complete = λ k y h. (each x).complete k y (subst (λ z. M z y (words_in k.items)) (sym (some_is h.1)) h.2);
+  complete = λ k y h. (each x).complete k y (subst (λ z. M z y (words_in k.items)) (sym (same_Some _ _ h.1)) h.2);
 }
 
 -- the same step, written otherwise

@@ -6,7 +6,6 @@ pub mod Linewise
 pub mod Scripting
 pub mod Spaces
 pub mod Spelt
-pub mod Staging
 pub mod Steps
 pub mod Turned
 pub mod Whole

@@ -1,10 +1,9 @@
 -- Lines, one after the other.
-use Rattle.std.proofs.Common.{◌≡◌, ℕ, ◌+◌, Bool, true, false, cond, not, ◌⊎◌, List, [], ◌∷◌, IfOk, Ok, Err, Result, sym, refl, ap, ◌∙◌, subst, inl, ⊎_elim}
+use Rattle.std.proofs.Common.{◌≡◌, ℕ, ◌+◌, Bool, true, false, cond, not, ◌⊎◌, List, [], ◌∷◌, Ok, Err, Result, sym, refl, ap, ◌∙◌, subst, inl}
 use Rattle.session.specs.Contents.{Contents}
 use Rattle.std.proofs.lemmas.Bool.{and_from, cond-false, cond-true, false≢true, or_left, or_right}
 use Rattle.words.specs.Pieces.{is_nil, nothing_follows}
-use Rattle.text.specs.Reading.{Gives, GivesOrWants, closed, held_by_then, line_holds, line_read, lines_read, passes, some_held}
-use Rattle.turns.specs.Turns.{wants_memory}
+use Rattle.text.specs.Reading.{GivesOrWants, closed, held_by_then, line_holds, line_read, lines_read, passes, some_held}
 use Rattle.text.specs.Turning.{Turned, has_held}
 use Rattle.words.specs.declared.faults.ReadFault.{ReadFault}
 use Rattle.words.specs.declared.faults.ReadFault.TheVariants.{Byte, NoMemory, Rest}
@@ -47,18 +46,6 @@ module _ (row : ℕ) (st : Stage) (c : Contents) (l : List ℕ) (ls : List (List
 pub wants_err : {T X : Type 0} (f : T → X) (r : Result T ReadFault) (spec : Result X ReadFault) (May : Type 0) (e : ReadFault) → r ≡ Err e → (spec ≡ Err e) ⊎ ((e ≡ NoMemory) × May) → GivesOrWants f r spec May
 wants_err f r spec May e h g = subst (λ r. GivesOrWants f r spec May) (sym h) g
 
--- what does not want memory does what the definition says
-pub gives_less : {T X : Type 0} (f : T → X) (r : Result T ReadFault) (spec : Result X ReadFault) (May : Type 0) → GivesOrWants f r spec May → Gives f r spec
-gives_less f (Ok t) spec May g = g
-gives_less f (Err e) spec May g = λ m. ⊎_elim (λ h. h) (λ p. absurd (false≢true (sym m ∙ ap wants_memory p.0))) g
-
-pub gives_err : {T X : Type 0} (f : T → X) (r : Result T ReadFault) (spec : Result X ReadFault) (e : ReadFault) → r ≡ Err e → (wants_memory e ≡ false → spec ≡ Err e) → Gives f r spec
-gives_err f r spec e h g = subst (λ r. Gives f r spec) (sym h) g
-
-pub made_always : {T E : Type 0} (r : Result T E) (P : Type 0) → P → IfOk r (λ _. P)
-made_always (Ok x) P h = h
-made_always (Err e) P h = tt
-
 -- what `close` promises
 pub wants_closed : (row : ℕ) (ls : List (List ℕ)) (c : Contents) (r : Result (Unit {0}) ReadFault) (spec : Result Contents ReadFault) (May : Type 0)
     → r ≡ closed row ls tt → spec ≡ closed row ls c → GivesOrWants (λ _. c) r spec May
@@ -67,7 +54,3 @@ wants_closed row ls c r spec May e h = subst (λ r. GivesOrWants (λ _. c) r spe
     go : (b : Bool) → GivesOrWants (λ (_ : Unit {0}). c) (cond b (Ok tt) (Err (Rest (record { line = row + 1; column = 1 })))) (cond b (Ok c) (Err (Rest (record { line = row + 1; column = 1 })))) May
     go true = refl
     go false = inl refl
-
-pub gives_closed : (row : ℕ) (ls : List (List ℕ)) (c : Contents) (r : Result (Unit {0}) ReadFault) (spec : Result Contents ReadFault)
-    → r ≡ closed row ls tt → spec ≡ closed row ls c → Gives (λ _. c) r spec
-gives_closed row ls c r spec e h = gives_less (λ _. c) r spec ⊥ (wants_closed row ls c r spec ⊥ e h)

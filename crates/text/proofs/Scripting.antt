@@ -1,23 +1,25 @@
 -- A text is read just where it is the spelling of a well-formed script.
-use Rattle.std.proofs.Common.{◌≡◌, ℕ, ◌+◌, ◌<◌, ◌≤◌, Bool, true, false, cond, leb, List, [], ◌∷◌, ◌++◌, map, length, Some, Ok, Err, codes, MatchBool, Result, sym, refl, ap, ◌∙◌, subst, ap₂, arith}
-use Rattle.session.specs.Contents.{Contents, no_contents, with_line, with_node, with_rate}
+use Rattle.std.proofs.Common.{◌≡◌, ℕ, ◌+◌, ◌<◌, ◌≤◌, Bool, true, false, cond, leb, List, [], ◌∷◌, ◌++◌, map, length, Some, None, Ok, Err, codes, if◌then◌else◌, MatchBool, Result, sym, refl, ap, ◌∙◌, subst, ap₂, ⊎_elim, ltb, arith}
+use Rattle.session.specs.Contents.{Contents, no_contents, ready, with_line, with_node, with_rate}
 use Rattle.session.specs.declared.nodes.Line as links
 use Rattle.session.specs.declared.nodes.Node as nodes
 use Rattle.std.proofs.ByRecursion.{All-append}
+use Rattle.std.proofs.lemmas.Option.{none-some, same_Some}
 use Rattle.std.proofs.lemmas.List.{length_push}
-use Rattle.std.proofs.lemmas.Bool.{cond-true, false≢true, le-leb, leb-true}
+use Rattle.std.proofs.lemmas.Bool.{and_from, cond-true, false≢true, le-leb, leb-true, lt-ltb}
 use Rattle.std.specs.List.{AllByRecursion}
 use Rattle.text.proofs.Commands.{FirstIs, end_complete, first_is, good_end, good_link, good_node, good_session, good_setup, layer_sound, link_complete, link_sound, node_complete, node_sound, session_complete, session_sound, setup_complete, unit_sound}
-use Rattle.text.proofs.Grammar.{none_is, not_ok, some_is}
+use Rattle.text.proofs.Grammar.{not_ok}
 use Rattle.text.proofs.Joining.{Free, join, join_split, line_join, lines_join, split_join}
 use Rattle.text.proofs.Lines.{lines_end, lines_more}
 use Rattle.text.proofs.Linewise.{Good, Says, free_line, line_complete, line_sound, same_words}
 use Rattle.text.proofs.Wholes.{TurnRest}
 use Rattle.text.specs.Accepted.{Accepts}
-use Rattle.text.specs.Reading.{Gives, closed, line_read, lines_read, passes, reading}
-use Rattle.text.specs.Scripts.{AllFit, LinkFits, NodeFits, Script, Setup, SetupFits, WellFormed, after_all, after_setup, bypasses, end_words, line_bytes, link_words, node_words, nodes_words, said, script_words, session_words, sets, setup_words, spelt, trims}
+use Rattle.text.specs.Reading.{GivesOrWants, closed, line_read, lines_read, passes, reading}
+use Rattle.text.specs.Scripts.{AllFit, LinkFits, NodeFits, Script, Setup, SetupFits, WellFormed, after_all, after_setup, bypasses, end_words, line_bytes, link_words, node_words, nodes_words, said, script_words, session_words, sets, setup_words, spelt, trims, with_nodes, with_setups}
 use Rattle.text.specs.Stages.{first_of, is_end, next_stage}
 use Rattle.text.specs.Turning.{Turned}
+use Rattle.turns.specs.Turns.{wants_memory}
 use Rattle.text.specs.declared.stages.First as firsts
 use Rattle.text.specs.declared.stages.First.TheVariants.{Session, Unit, Layer, Node, Line, End, Other}
 use Rattle.text.specs.declared.stages.Stage.{Stage}
@@ -122,34 +124,34 @@ module _ (c : Contents) (row : ℕ) (ls : List (List ℕ)) (h : Contents) where
     step : (st : Stage) (f : firsts.First) (next : Stage) (d : Contents) → FirstIs f w → next_stage st f ≡ Some next → TurnRest f c d vs → After f next d → Rest st c (line_bytes ps ∷ ls) h
     step Head Session next d fw n t a =
         let s = session_sound c d vs t in
-        (s.0, s.1, s.2, ls, ap (λ z. z ∷ ls) (is_line _ (session_words s.0) fw s.4), subst (λ y. RestUnits y ls h) s.3 (subst (λ s. Rest s d ls h) (sym (some_is n)) a))
-    step Head Unit next d fw n t a = absurd (none_is n)
-    step Head Layer next d fw n t a = absurd (none_is n)
-    step Head Node next d fw n t a = absurd (none_is n)
-    step Head Line next d fw n t a = absurd (none_is n)
-    step Head End next d fw n t a = absurd (none_is n)
-    step Head Other next d fw n t a = absurd (none_is n)
-    step Units Session next d fw n t a = absurd (none_is n)
-    step Units Unit next d fw n t a = let s = unit_sound c d vs t in by_setup d next (some_is n) s.0 s.1 s.2 (is_line _ (setup_words s.0) fw s.3) a
-    step Units Layer next d fw n t a = let s = layer_sound c d vs t in by_setup d next (some_is n) s.0 s.1 s.2 (is_line _ (setup_words s.0) fw s.3) a
-    step Units Node next d fw n t a = let s = node_sound c d vs t in let q = by_node d next (some_is n) s.0 s.1 s.2 (is_line _ (node_words (length c.nodes) s.0) fw s.3) a in ([], q.0, q.1, q.2, tt, q.3, q.4, q.5, q.6)
-    step Units Line next d fw n t a = absurd (none_is n)
-    step Units End next d fw n t a = absurd (none_is n)
-    step Units Other next d fw n t a = absurd (none_is n)
-    step Nodes Session next d fw n t a = absurd (none_is n)
-    step Nodes Unit next d fw n t a = absurd (none_is n)
-    step Nodes Layer next d fw n t a = absurd (none_is n)
-    step Nodes Node next d fw n t a = let s = node_sound c d vs t in let q = by_node d next (some_is n) s.0 s.1 s.2 (is_line _ (node_words (length c.nodes) s.0) fw s.3) a in (q.0, q.1, q.3, q.4, q.5, q.6)
-    step Nodes Line next d fw n t a = let s = link_sound c d vs t in no_nodes (by_link d next (some_is n) s.0 s.1 s.2 (is_line _ (link_words s.0) fw s.3) a)
+        (s.0, s.1, s.2, ls, ap (λ z. z ∷ ls) (is_line _ (session_words s.0) fw s.4), subst (λ y. RestUnits y ls h) s.3 (subst (λ s. Rest s d ls h) (sym (same_Some _ _ n)) a))
+    step Head Unit next d fw n t a = absurd (none-some _ n)
+    step Head Layer next d fw n t a = absurd (none-some _ n)
+    step Head Node next d fw n t a = absurd (none-some _ n)
+    step Head Line next d fw n t a = absurd (none-some _ n)
+    step Head End next d fw n t a = absurd (none-some _ n)
+    step Head Other next d fw n t a = absurd (none-some _ n)
+    step Units Session next d fw n t a = absurd (none-some _ n)
+    step Units Unit next d fw n t a = let s = unit_sound c d vs t in by_setup d next (same_Some _ _ n) s.0 s.1 s.2 (is_line _ (setup_words s.0) fw s.3) a
+    step Units Layer next d fw n t a = let s = layer_sound c d vs t in by_setup d next (same_Some _ _ n) s.0 s.1 s.2 (is_line _ (setup_words s.0) fw s.3) a
+    step Units Node next d fw n t a = let s = node_sound c d vs t in let q = by_node d next (same_Some _ _ n) s.0 s.1 s.2 (is_line _ (node_words (length c.nodes) s.0) fw s.3) a in ([], q.0, q.1, q.2, tt, q.3, q.4, q.5, q.6)
+    step Units Line next d fw n t a = absurd (none-some _ n)
+    step Units End next d fw n t a = absurd (none-some _ n)
+    step Units Other next d fw n t a = absurd (none-some _ n)
+    step Nodes Session next d fw n t a = absurd (none-some _ n)
+    step Nodes Unit next d fw n t a = absurd (none-some _ n)
+    step Nodes Layer next d fw n t a = absurd (none-some _ n)
+    step Nodes Node next d fw n t a = let s = node_sound c d vs t in let q = by_node d next (same_Some _ _ n) s.0 s.1 s.2 (is_line _ (node_words (length c.nodes) s.0) fw s.3) a in (q.0, q.1, q.3, q.4, q.5, q.6)
+    step Nodes Line next d fw n t a = let s = link_sound c d vs t in no_nodes (by_link d next (same_Some _ _ n) s.0 s.1 s.2 (is_line _ (link_words s.0) fw s.3) a)
     step Nodes End next d fw n t a = no_nodes (by_end d t.0 (end_line t.1 fw) a)
-    step Nodes Other next d fw n t a = absurd (none_is n)
-    step Lines Session next d fw n t a = absurd (none_is n)
-    step Lines Unit next d fw n t a = absurd (none_is n)
-    step Lines Layer next d fw n t a = absurd (none_is n)
-    step Lines Node next d fw n t a = absurd (none_is n)
-    step Lines Line next d fw n t a = let s = link_sound c d vs t in (by_link d next (some_is n) s.0 s.1 s.2 (is_line _ (link_words s.0) fw s.3) a)
+    step Nodes Other next d fw n t a = absurd (none-some _ n)
+    step Lines Session next d fw n t a = absurd (none-some _ n)
+    step Lines Unit next d fw n t a = absurd (none-some _ n)
+    step Lines Layer next d fw n t a = absurd (none-some _ n)
+    step Lines Node next d fw n t a = absurd (none-some _ n)
+    step Lines Line next d fw n t a = let s = link_sound c d vs t in (by_link d next (same_Some _ _ n) s.0 s.1 s.2 (is_line _ (link_words s.0) fw s.3) a)
     step Lines End next d fw n t a = (by_end d t.0 (end_line t.1 fw) a)
-    step Lines Other next d fw n t a = absurd (none_is n)
+    step Lines Other next d fw n t a = absurd (none-some _ n)
 
   sound_line : (st : Stage) (l : List ℕ) → ((row : ℕ) (st : Stage) (d : Contents) → lines_read row st d ls ≡ Ok h → Rest st d ls h) → (r : Result Turned ReadFault) → line_read row st c l (is_nil ls) ≡ r
       → passes r (λ t. cond t.ended (closed row ls t.held) (lines_read (row + 1) t.stage t.held ls)) ≡ Ok h → Rest st c (l ∷ ls) h
@@ -206,11 +208,6 @@ first_node (n ∷ ns) xs row c s f g =
     go_on row Units c _ _ (nodes_words (length c.nodes + 1) ns ++ tail_words xs) Nodes (with_node c n) (good_node c n f.0) (node_complete c Units refl n f.0)
     ∙ ap (λ k. lines_read (row + 1) Nodes (with_node c n) (pieces_of (nodes_words k ns ++ tail_words xs))) (sym (length_push c.nodes n))
     ∙ nodes_complete ns xs (row + 1) (with_node c n) f.1 g
-
-setup_split : (x : Setup) → (w : List ℕ) × (ws : List (List ℕ)) × (setup_words x ≡ w ∷ ws)
-setup_split (sets s k) = (_, _, refl)
-setup_split (trims s g) = (_, _, refl)
-setup_split (bypasses s) = (_, _, refl)
 
 units_complete : (ss : List Setup) (ns : List nodes.Node) (xs : List links.Line) (row : ℕ) (c : Contents) → 0 < length ns → AllFit SetupFits after_setup c ss
     → AllFit NodeFits with_node (after_all after_setup c ss) ns → AllFit LinkFits with_line (after_all with_node (after_all after_setup c ss) ns) xs
@@ -280,6 +277,43 @@ scripts_sound text h e = go (leb (length text) 16384) refl e
         )
 
 -- what is accepted, by the definition of reading
-pub accepts : {T : Type 0} (text : List ℕ) (held : Contents) (r : Result T ReadFault) → Gives (λ _. held) r (reading text) → Accepts r text held
-accepts text held (Ok t) g = let s = scripts_sound text held g in (s.0, (s.1, s.3, s.2), s.4)
-accepts text held (Err e) g = λ m s f. not_ok (sym (g m) ∙ ap reading f.2 ∙ scripts_complete s f.0 (subst (λ z. length z ≤ 16384) f.2 f.1))
+pub accepts : {T : Type 0} (text : List ℕ) (held : Contents) (r : Result T ReadFault) (May : Type 0) → GivesOrWants (λ _. held) r (reading text) May → Accepts r text held
+accepts text held (Ok t) May g = let s = scripts_sound text held g in (s.0, (s.1, s.3, s.2), s.4)
+accepts text held (Err e) May g = λ m s f. ⊎_elim
+    (λ h. not_ok (sym h ∙ ap reading f.2 ∙ scripts_complete s f.0 (subst (λ z. length z ≤ 16384) f.2 f.1)))
+    (λ w. false≢true (sym m ∙ ap wants_memory w.0))
+    g
+
+-- what an accepted text holds has a rate and a node
+kept : {X Y : Type 0} (f : Contents → Y) (after : Contents → X → Contents) → ((c : Contents) (x : X) → f (after c x) ≡ f c) → (xs : List X) (c : Contents) → f (after_all after c xs) ≡ f c
+kept f after k [] c = refl
+kept f after k (x ∷ xs) c = kept f after k xs (after c x) ∙ k c x
+
+same_rate : (c : Contents) (x : Setup) → (after_setup c x).rate ≡ c.rate
+same_rate c (sets s k) = refl
+same_rate c (trims s g) = refl
+same_rate c (bypasses s) = refl
+
+all_nodes : (ns : List nodes.Node) (c : Contents) → length (after_all with_node c ns).nodes ≡ length c.nodes + length ns
+all_nodes [] c = omega arith
+all_nodes (n ∷ ns) c = let h = all_nodes ns (with_node c n) in let p = length_push c.nodes n in omega arith
+
+pub ready_said : (s : Script) → WellFormed s → ready (said s) ≡ true
+ready_said s f =
+    let r : (said s).rate ≡ s.rate = kept (λ c. c.rate) with_line (λ c x. refl) s.lines (with_nodes s) ∙ kept (λ c. c.rate) with_node (λ c x. refl) s.nodes (with_setups s) ∙ kept (λ c. c.rate) after_setup same_rate s.setups (with_rate no_contents s.rate) in
+    let n : (said s).nodes ≡ (with_nodes s).nodes = kept (λ c. c.nodes) with_line (λ c x. refl) s.lines (with_nodes s) in
+    let least = f.least_rate in
+    let some = f.some_node in
+    let many = all_nodes s.nodes (with_setups s) in
+    and_from _ _ (ap (ltb 0) r ∙ lt-ltb 0 s.rate (omega arith)) (ap (λ ns. ltb 0 (length ns)) n ∙ lt-ltb 0 (length (with_nodes s).nodes) (omega arith))
+
+pub ready_read : (text : List ℕ) (h : Contents) → reading text ≡ Ok h → ready h ≡ true
+ready_read text h e = let s = scripts_sound text h e in ap ready s.4 ∙ ready_said s.0 s.1
+
+-- a text that is not too long is read by its lines
+pub by_lines : (text bytes : List ℕ) → Some bytes ≡ (if leb (length text) 16384 then Some text else None) → reading text ≡ lines_read 1 Head no_contents (split 10 bytes)
+by_lines text bytes h = go (leb (length text) 16384) h
+  where
+    go : (b : Bool) → Some bytes ≡ (if b then Some text else None) → cond b (lines_read 1 Head no_contents (split 10 text)) (Err Long) ≡ lines_read 1 Head no_contents (split 10 bytes)
+    go true e = ap (λ t. lines_read 1 Head no_contents (split 10 t)) (sym (same_Some _ _ e))
+    go false e = absurd (none-some _ (sym e))

@@ -1,12 +1,12 @@
 -- Numbers and the words that spell them.
 use Rattle.std.proofs.Common.{◌≡◌, ℕ, suc, ◌-◌, ◌^◌, ◌<◌, ◌≤◌, true, false, not, ◌&&◌, ◌||◌, eqb, ltb, leb, List, [], ◌∷◌, length, get_or, drop, ℤ, pos, negsuc, Some, None, decimal, Option, sym, refl, ap, ◌∙◌, subst, ⊎_elim, arith, rules}
+use Rattle.std.proofs.lemmas.Option.{none-some, same_Some}
 use Rattle.std.proofs.lemmas.Fmt.{decimal_digit, decimal_nonempty, decimal-digits_value, digits_decimal, first_decimal, length-decimal-le, digits_value-decimal}
 use Rattle.std.proofs.lemmas.Str.Parse.{IsNumeralModel, numerals_by_fold, digits_value_short}
 use Rattle.std.proofs.lemmas.Bool.{and_from, and_left, and_parts, both_ways, cases_Bool, cases_eq, cond-false, cond-true, eq-eqb, eqb-true, false≢true, le-leb, leb-true, lt-leb, lt-ltb, ne_eqb, not_from_false, not-true, or_cases, or_left, or_right}
 use Rattle.std.specs.Fmt.{signed_decimal}
 use Rattle.std.proofs.lemmas.Slice.Eq.{bytes_eq-Decides}
 use Rattle.words.proofs.Runs.{digit_at}
-use Rattle.text.proofs.Grammar.{none_is, some_is}
 use Rattle.text.specs.Scripts.{IsGain}
 use Rattle.words.specs.Bytes.{all_digits, all_letters, is_digit, is_letter}
 use Rattle.words.specs.Numbers.{between, gain, is_negative, negative, positive, read_on, unsigned, well_spelt, whole}
@@ -36,11 +36,11 @@ pub whole_sound : (ds : List ℕ) (n : ℕ) → whole ds ≡ Some n → (ds ≡ 
 whole_sound ds n h = ⊎_elim yes no' (cases_Bool (well_spelt ds))
   where
     no' : well_spelt ds ≡ false → (ds ≡ decimal n) × (n < 10 ^ 6)
-    no' e = absurd (none_is (sym (cond-false (well_spelt ds) (Some (read_on 0 ds)) None e) ∙ h))
+    no' e = absurd (none-some _ (sym (cond-false (well_spelt ds) (Some (read_on 0 ds)) None e) ∙ h))
 
     yes : well_spelt ds ≡ true → (ds ≡ decimal n) × (n < 10 ^ 6)
     yes e =
-        let v : read_on 0 ds ≡ n = some_is (sym (cond-true (well_spelt ds) (Some (read_on 0 ds)) None e) ∙ h) in
+        let v : read_on 0 ds ≡ n = same_Some _ _ (sym (cond-true (well_spelt ds) (Some (read_on 0 ds)) None e) ∙ h) in
         let d = and_parts (all_digits ds) _ e in
         let l = and_parts (leb 1 (length ds) && leb (length ds) 6) _ d.1 in
         let l2 = and_parts (leb 1 (length ds)) (leb (length ds) 6) l.0 in
@@ -70,19 +70,19 @@ pub decimal_spelling : (n : ℕ) → n < 10 ^ 6 → spelling (decimal n) ≡ num
 decimal_spelling n h = digits_spelling (decimal n) (digits_decimal own n (small n h)) (decimal_nonempty n (small n h))
 
 pub between_sound : (low high : ℕ) (o : Option ℕ) (n : ℕ) → between low high o ≡ Some n → (o ≡ Some n) × (low ≤ n) × (n ≤ high)
-between_sound low high None n h = absurd (none_is h)
+between_sound low high None n h = absurd (none-some _ h)
 between_sound low high (Some m) n h = ⊎_elim yes no' (cases_Bool (leb low m && leb m high))
   where
     yes : (leb low m && leb m high) ≡ true → (Some m ≡ Some n) × (low ≤ n) × (n ≤ high)
     yes e =
-        let same : m ≡ n = some_is (sym (cond-true (leb low m && leb m high) (Some m) None e) ∙ h) in
+        let same : m ≡ n = same_Some _ _ (sym (cond-true (leb low m && leb m high) (Some m) None e) ∙ h) in
         let p = and_parts (leb low m) (leb m high) e in
         let a = leb-true low m p.0 in
         let b = leb-true m high p.1 in
         (ap Some same, omega arith, omega arith)
 
     no' : (leb low m && leb m high) ≡ false → (Some m ≡ Some n) × (low ≤ n) × (n ≤ high)
-    no' e = absurd (none_is (sym (cond-false (leb low m && leb m high) (Some m) None e) ∙ h))
+    no' e = absurd (none-some _ (sym (cond-false (leb low m && leb m high) (Some m) None e) ∙ h))
 
 pub between_complete : (low high n : ℕ) → low ≤ n → n ≤ high → between low high (Some n) ≡ Some n
 between_complete low high n a b = cond-true (leb low n && leb n high) _ _ (and_from _ _ (le-leb low n a) (le-leb n high b))
@@ -92,9 +92,9 @@ abbrev pub NumberWord : ℕ → ℕ → ℕ → Spelling → Type 0
 NumberWord low high n w = (w ≡ spelling (decimal n)) × (low ≤ n) × (n ≤ high)
 
 whole_of_sound : (w : Spelling) (n : ℕ) → whole_of w ≡ Some n → (w ≡ spelling (decimal n)) × (n < 10 ^ 6)
-whole_of_sound (name bs) n h = absurd (none_is h)
+whole_of_sound (name bs) n h = absurd (none-some _ h)
 whole_of_sound (number bs) n h = let p = whole_sound bs n h in (ap number p.0 ∙ sym (decimal_spelling n p.1), p.1)
-whole_of_sound (unknown bs) n h = absurd (none_is h)
+whole_of_sound (unknown bs) n h = absurd (none-some _ h)
 
 pub number_sound : (low high : ℕ) (w : Spelling) (n : ℕ) → between low high (whole_of w) ≡ Some n → NumberWord low high n w
 number_sound low high w n h = let b = between_sound low high (whole_of w) n h in ((whole_of_sound w n b.0).0, b.1, b.2)
@@ -112,12 +112,12 @@ head_hyphen [] h = absurd (false≢true h)
 head_hyphen (b ∷ bs) h = ap (λ x. x ∷ bs) (eqb-true b 45 h)
 
 positive_sound : (o : Option ℕ) (z : ℤ) → positive o ≡ Some z → (n : ℕ) × (o ≡ Some n) × (pos n ≡ z)
-positive_sound None z h = absurd (none_is h)
-positive_sound (Some n) z h = (n, refl, some_is h)
+positive_sound None z h = absurd (none-some _ h)
+positive_sound (Some n) z h = (n, refl, same_Some _ _ h)
 
 negative_sound : (o : Option ℕ) (z : ℤ) → negative o ≡ Some z → (n : ℕ) × (o ≡ Some n) × (negsuc (n - 1) ≡ z)
-negative_sound None z h = absurd (none_is h)
-negative_sound (Some n) z h = (n, refl, some_is h)
+negative_sound None z h = absurd (none-some _ h)
+negative_sound (Some n) z h = (n, refl, same_Some _ _ h)
 
 pub gain_sound : (bs : List ℕ) (z : ℤ) → gain bs ≡ Some z → (bs ≡ signed_decimal z) × IsGain z
 gain_sound bs z h = ⊎_elim neg po (cases_Bool (is_negative bs))
@@ -168,9 +168,9 @@ abbrev pub GainWord : ℤ → Spelling → Type 0
 GainWord z w = (w ≡ spelling (signed_decimal z)) × IsGain z
 
 pub gain_of_sound : (w : Spelling) (z : ℤ) → gain_of w ≡ Some z → GainWord z w
-gain_of_sound (name bs) z h = absurd (none_is h)
+gain_of_sound (name bs) z h = absurd (none-some _ h)
 gain_of_sound (number bs) z h = let p = gain_sound bs z h in (ap number p.0 ∙ sym (signed_spelling z p.1), p.1)
-gain_of_sound (unknown bs) z h = absurd (none_is h)
+gain_of_sound (unknown bs) z h = absurd (none-some _ h)
 
 pub gain_of_complete : (w : Spelling) (z : ℤ) → GainWord z w → gain_of w ≡ Some z
 gain_of_complete w z h = ap gain_of (h.0 ∙ signed_spelling z h.1) ∙ gain_complete z h.1
@@ -188,6 +188,3 @@ pub one_sound : (w : Spelling) → is_one w ≡ true → w ≡ number (49 ∷ []
 one_sound (name bs) h = absurd (false≢true h)
 one_sound (number bs) h = ap number ((bytes_eq-Decides bs (49 ∷ [])).0 h)
 one_sound (unknown bs) h = absurd (false≢true h)
-
-pub one_complete : (w : Spelling) → w ≡ number (49 ∷ []) → is_one w ≡ true
-one_complete w h = ap is_one h

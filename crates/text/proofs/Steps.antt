@@ -4,7 +4,7 @@ use Rattle.forms.specs.Forms.{count_form, numbered, role_fits, role_most}
 use Rattle.session.specs.Contents.{Contents}
 use Rattle.std.proofs.lemmas.Bool.{eq-eqb, eqb-true}
 use Rattle.std.specs.Fmt.{signed_decimal}
-use Rattle.text.proofs.Grammar.{Ends, Head, ends_as, ends_ask, ends_asked, ends_assoc, ends_word}
+use Rattle.text.proofs.Grammar.{Ends, Head, ends_ask, ends_asked, ends_assoc, ends_to, ends_word}
 use Rattle.text.proofs.Spelt.{gain_of_complete, gain_of_sound, name_complete, name_sound, number_complete, number_sound}
 use Rattle.text.specs.Scripts.{IsGain}
 use Rattle.words.specs.Numbers.{between}
@@ -21,8 +21,9 @@ module _ {Y : Type 0} (f : ℕ → Parse Y) (M : ℕ → Y → List Spelling →
 
   pub ends_ranged : (low high : ℕ) → high < 10 ^ 6 → Ends (ranged low high >>= f) (ANumber low high)
   ends_ranged low high few =
-      ends_as (ranged low high >>= f) (Head raw) (ANumber low high) to from
+      ends_to (ANumber low high)
       (ends_assoc word (number_in low high) f (Head raw) (ends_word (λ w. number_in low high w >>= f) raw (λ w. ends_asked (between low high (whole_of w.word)) (Number w.place) f M each)))
+      to from
     where
       raw : Spelling → Y → List Spelling → Type 0
       raw w y vs = (n : ℕ) × (between low high (whole_of w) ≡ Some n) × M n y vs
@@ -47,11 +48,12 @@ module _ {Y : Type 0} (f : ℕ → Parse Y) (M : ℕ → Y → List Spelling →
 
   pub ends_numbered : (c : Contents) (role : Role) → Ends (numbered c role >>= f) (ANumbered c role)
   ends_numbered c role =
-      ends_as (numbered c role >>= f) (Head raw) (ANumbered c role) to from
+      ends_to (ANumbered c role)
       (ends_assoc word (λ w. number_in 0 (role_most role) w >>= (λ n. ask (role_fits c role n) (Fit w.place) >> give n)) f (Head raw)
       (ends_word _ raw (λ w. ends_assoc (number_in 0 (role_most role) w) (λ n. ask (role_fits c role n) (Fit w.place) >> give n) f (raw w.word)
       (ends_asked (between 0 (role_most role) (whole_of w.word)) (Number w.place) _ (λ n y vs. (role_fits c role n ≡ true) × M n y vs)
       (λ n. ends_assoc (ask (role_fits c role n) (Fit w.place)) (λ _. give n) f _ (ends_ask (role_fits c role n) (Fit w.place) (f n) (M n) (each n)))))))
+      to from
     where
       raw : Spelling → Y → List Spelling → Type 0
       raw w y vs = (n : ℕ) × (between 0 (role_most role) (whole_of w) ≡ Some n) × ((role_fits c role n ≡ true) × M n y vs)
@@ -68,11 +70,12 @@ module _ {Y : Type 0} (f : ℕ → Parse Y) (M : ℕ → Y → List Spelling →
 
   pub ends_count : Ends (count_form >>= f) ACount
   ends_count =
-      ends_as (count_form >>= f) (Head raw) ACount to from
+      ends_to ACount
       (ends_assoc word (λ w. number_in 1 31 w >>= (λ n. ask (eqb (n % 2) 1) (Number w.place) >> give n)) f (Head raw)
       (ends_word _ raw (λ w. ends_assoc (number_in 1 31 w) (λ n. ask (eqb (n % 2) 1) (Number w.place) >> give n) f (raw w.word)
       (ends_asked (between 1 31 (whole_of w.word)) (Number w.place) _ (λ n y vs. (eqb (n % 2) 1 ≡ true) × M n y vs)
       (λ n. ends_assoc (ask (eqb (n % 2) 1) (Number w.place)) (λ _. give n) f _ (ends_ask (eqb (n % 2) 1) (Number w.place) (f n) (M n) (each n)))))))
+      to from
     where
       raw : Spelling → Y → List Spelling → Type 0
       raw w y vs = (n : ℕ) × (between 1 31 (whole_of w) ≡ Some n) × ((eqb (n % 2) 1 ≡ true) × M n y vs)
@@ -93,8 +96,9 @@ module _ {Y : Type 0} (f : ℤ → Parse Y) (M : ℤ → Y → List Spelling →
 
   pub ends_gain : Ends (gain_word >>= f) AGain
   ends_gain =
-      ends_as (gain_word >>= f) (Head raw) AGain to from
+      ends_to AGain
       (ends_assoc word (λ w. asked (gain_of w.word) (Number w.place)) f (Head raw) (ends_word _ raw (λ w. ends_asked (gain_of w.word) (Number w.place) f M each)))
+      to from
     where
       raw : Spelling → Y → List Spelling → Type 0
       raw w y vs = (g : ℤ) × (gain_of w ≡ Some g) × M g y vs
@@ -111,8 +115,9 @@ module _ {Y : Type 0} (q : Parse Y) (L : Y → List Spelling → Type 0) (r : En
 
   pub ends_keyword : Ends (keyword key >> q) AName
   ends_keyword =
-      ends_as (keyword key >> q) (Head raw) AName to from
+      ends_to AName
       (ends_assoc word (λ w. ask (is_name key w.word) (Form w.place)) (λ _. q) (Head raw) (ends_word _ raw (λ w. ends_ask (is_name key w.word) (Form w.place) q L r)))
+      to from
     where
       raw : Spelling → Y → List Spelling → Type 0
       raw w y vs = (is_name key w ≡ true) × L y vs

@@ -1,5 +1,5 @@
 -- A whole line, from its first word.
-use Rattle.std.proofs.Common.{◌≡◌, true, false, not, ◌&&◌, is_some, is_ok, Some, None, Ok, Err, Option, Result, unwrap_or, sym, refl, ap, ◌∙◌, inl, inr}
+use Rattle.std.proofs.Common.{◌≡◌, true, not, ◌&&◌, is_some, is_ok, Some, None, Ok, Err, Option, Result, unwrap_or, sym, refl, ap, ◌∙◌, inl, inr}
 use Rattle.session.specs.Contents.{Contents}
 use Rattle.session.specs.declared.sessions.drafts.Draft.{Draft}
 use Rattle.std.proofs.lemmas.Bool.{false≢true}
@@ -49,13 +49,6 @@ after_word st c w first = asked (next_stage st first) (NotDue w.place) >>= rest_
 module _ (st : Stage) (c : Contents) (k : Cursor) (w : Item) (k₁ : Cursor) (first : firsts.First) (hw : Ok (w, k₁) ≡ word k) (hf : first ≡ first_of w.word) where
   to_first : whole_turn st c k ≡ after_word st c w first k₁
   to_first = ap (λ r. then r (λ v. after_word st c v (first_of v.word))) (sym hw) ∙ ap (λ f. after_word st c w f k₁) (sym hf)
-
-  pub turn_undue : is_some (next_stage st first) ≡ false → whole_turn st c k ≡ Err (NotDue w.place)
-  turn_undue h = to_first ∙ go (next_stage st first) h
-    where
-      go : (o : Option Stage) → is_some o ≡ false → then (asked o (NotDue w.place) k₁) (rest_turn first c w) ≡ Err (NotDue w.place)
-      go None e = refl
-      go (Some s) e = absurd (false≢true (sym e))
 
   module _ (due : is_some (next_stage st first) ≡ true) where
     to_turn : whole_turn st c k ≡ rest_turn first c w (unwrap_or (next_stage st first) st) k₁

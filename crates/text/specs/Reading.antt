@@ -3,7 +3,6 @@ use Rattle.std.specs.Prelude.{◌≡◌, ℕ, ◌+◌, Bool, false, cond, not, �
 use Rattle.session.specs.Contents.{Contents, no_contents}
 use Rattle.words.specs.Bytes.{known_run}
 use Rattle.words.specs.Pieces.{is_nil, nothing_follows, split}
-use Rattle.turns.specs.Turns.{wants_memory}
 use Rattle.text.specs.Turning.{Turned, has_held, whole_turn}
 use Rattle.words.specs.Words.{Cursor, line_words}
 use Rattle.words.specs.declared.faults.ReadFault.{ReadFault}
@@ -47,11 +46,6 @@ lines_read row stage c (line ∷ rest) =
 -- What a text gives: what the session holds, or the first check that fails.
 abbrev pub reading : List ℕ → Result Contents ReadFault
 reading text = cond (nat_le (length text) 16384) (lines_read 1 Head no_contents (split 10 text)) (Err Long)
-
--- A call does what the definition says, or wants memory.
-abbrev pub Gives : {T X : Type 0} → (T → X) → Result T ReadFault → Result X ReadFault → Type 0
-Gives f (Ok t) spec = spec ≡ Ok (f t)
-Gives f (Err e) spec = wants_memory e ≡ false → spec ≡ Err e
 
 -- Whether a line is all right and holds a node or a line.
 abbrev pub line_holds : Result Turned ReadFault → Bool

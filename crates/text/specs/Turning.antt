@@ -1,10 +1,11 @@
 -- A whole line, from its first word on.
-use Rattle.std.specs.Prelude.{◌≡◌, ◌+◌, ◌<◌, Bool, true, false, not, ◌&&◌, ◌⊎◌, length, nat_lt}
+use Rattle.std.specs.Prelude.{Bool, true, false, not, ◌&&◌, ◌⊎◌}
 use Rattle.forms.specs.Forms.{layer_form}
 use Rattle.turns.specs.Turns.{line_turn, node_turn, session_turn, unit_turn}
-use Rattle.session.specs.Contents.{Contents, ready}
-use Rattle.session.specs.Drafts.{LinesFull, NodesFull}
+use Rattle.session.specs.Contents.{Contents}
+use Rattle.session.specs.Drafts.{LinesFull, NodesFull, draft}
 use Rattle.session.specs.declared.sessions.drafts.Draft.{Draft}
+use Rattle.text.specs.declared.reader.Reader.{Reader}
 use Rattle.text.specs.Stages.{first_of, is_end, next_stage}
 use Rattle.text.specs.declared.stages.First.{First}
 use Rattle.text.specs.declared.stages.First.TheVariants.{Session, Unit, Layer, Node, Line, End, Other}
@@ -43,28 +44,15 @@ pub record Turned : Type 0 where
   pub held : Contents
   pub ended : Bool
 
+-- What the reader makes of a line: true at the end.
+abbrev pub turned : Reader → Bool → Turned
+turned r ended = record { stage = r.stage; held = draft r.draft; ended = ended }
+
 -- A whole line.
 abbrev pub whole_turn : Stage → Contents → Parse Turned
 whole_turn stage c =
     word >>= (λ w. asked (next_stage stage (first_of w.word)) (NotDue w.place)
     >>= (λ next. turn (first_of w.word) c w >>= (λ d. give (record { stage = next; held = d; ended = is_end (first_of w.word) }))))
-
--- What is held after a line: the session line sets the rate, a node line adds a node, and no other line changes either.
-abbrev pub Grows : First → Contents → Contents → Type 0
-Grows Session c d = (0 < d.rate) × (d.nodes ≡ c.nodes)
-Grows Unit c d = (d.rate ≡ c.rate) × (d.nodes ≡ c.nodes)
-Grows Layer c d = (d.rate ≡ c.rate) × (d.nodes ≡ c.nodes)
-Grows Node c d = (d.rate ≡ c.rate) × (length d.nodes ≡ length c.nodes + 1)
-Grows Line c d = (d.rate ≡ c.rate) × (d.nodes ≡ c.nodes)
-Grows End c d = (d.rate ≡ c.rate) × (d.nodes ≡ c.nodes)
-Grows Other c d = (d.rate ≡ c.rate) × (d.nodes ≡ c.nodes)
-
--- What the reader has by then.
-abbrev pub staged : Stage → Contents → Bool
-staged Head c = true
-staged Units c = nat_lt 0 c.rate
-staged Nodes c = ready c
-staged Lines c = ready c
 
 -- Whether the reader is among nodes or lines and goes on: it has just held a node or a line.
 abbrev pub late : Stage → Bool

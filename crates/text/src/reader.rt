@@ -1,13 +1,12 @@
-ghost use Rattle.std.specs.Prelude.{◌≡◌, ◌≤◌, true, length, IfOk, OnErr, OnOk};
-ghost use Rattle.session.specs.Contents.{contents, no_contents, ready};
+ghost use Rattle.std.specs.Prelude.{◌≡◌, ◌≤◌, true, OnErr};
+ghost use Rattle.session.specs.Contents.{contents, no_contents};
 ghost use Rattle.session.specs.Drafts.{draft as contents_of};
 ghost use Rattle.session.specs.Held.{nothing};
 ghost use Rattle.session.specs.Sessions.{held};
 ghost use Rattle.text.specs.Accepted.{Accepts};
-ghost use Rattle.text.specs.Reading.{Gives, GivesOrWants, closed, line_holds, line_read, lines_read, may_want, reading, some_held, value_of};
-ghost use Rattle.turns.specs.Turns.{Does, DoesOrWants};
-ghost use Rattle.text.specs.Turning.{SomeFull, staged, whole_turn};
-ghost use Rattle.text.specs.Stages.{is_end};
+ghost use Rattle.text.specs.Reading.{GivesOrWants, closed, line_holds, line_read, lines_read, may_want, reading, some_held, value_of};
+ghost use Rattle.turns.specs.Turns.{DoesOrWants};
+ghost use Rattle.text.specs.Turning.{SomeFull, turned, whole_turn};
 ghost use Rattle.words.specs.Pieces.{pieces, split};
 ghost use Rattle.words.specs.Words.{cursor};
 ghost use Rattle.text.specs.declared.stages.Stage.TheVariants.{Head};
@@ -20,6 +19,7 @@ use session::sessions::drafts::Draft;
 use std::alloc::Global;
 use words::faults::{Place, ReadFault};
 use words::pieces::Pieces;
+use words::shorts::Short;
 use words::words::Words;
 
 // The reader: where it is, and what is held so far.
@@ -27,12 +27,6 @@ use words::words::Words;
 pub struct Reader {
     stage: Stage,
     draft: Draft,
-}
-
-fn is_end(first: First) -> bool
-    ensures { result ≡ is_end first }
-{
-    matches!(first, First::End)
 }
 
 // Nothing may follow the end, which is line `row`.
@@ -63,27 +57,20 @@ impl Reader {
 
     // A line by its words; true at the end.
     fn whole_turn(&mut self, words: &mut Words<'_>) -> Result<bool, ReadFault>
-        ensures does { Does (λ ended. record { stage = self.new.stage; held = contents_of self.new.draft; ended = ended }) result (cursor words.new) (whole_turn self.old.stage (contents_of self.old.draft) (cursor words.old)) }
-        ensures staged { staged self.old.stage (contents_of self.old.draft) ≡ true → IfOk result (λ ended. (staged self.new.stage (contents_of self.new.draft) ≡ true) × (ended ≡ true → ready (contents_of self.new.draft) ≡ true)) }
-        ensures wants { DoesOrWants (λ ended. record { stage = self.new.stage; held = contents_of self.new.draft; ended = ended }) result (cursor words.new) (whole_turn self.old.stage (contents_of self.old.draft) (cursor words.old)) ((line_holds (value_of (whole_turn self.old.stage (contents_of self.old.draft) (cursor words.old))) ≡ true) × SomeFull self.old.draft) }
+        ensures { DoesOrWants (turned self.new) result (cursor words.new) (whole_turn self.old.stage (contents_of self.old.draft) (cursor words.old)) ((line_holds (value_of (whole_turn self.old.stage (contents_of self.old.draft) (cursor words.old))) ≡ true) × SomeFull self.old.draft) }
     {
         let word = words.word()?;
         let first = first_of(&word);
         if !self.stage.advance(first) {
             return Err(ReadFault::First(word.place));
         }
-        match turn(&mut self.draft, first, &word, words) {
-            Ok(()) => Ok(is_end(first)),
-            Err(fault) => Err(fault),
-        }
+        turn(&mut self.draft, first, &word, words)?;
+        Ok(first == First::End)
     }
 
     // A line of the text; true at the end. `last` says that no 0A ends it.
-    fn read_line(&mut self, line: &[u8], row: usize, last: bool) -> Result<bool, ReadFault>
-        requires { length line.now ≤ 16384 }
-        ensures does { Gives (λ ended. record { stage = self.new.stage; held = contents_of self.new.draft; ended = ended }) result (line_read row self.old.stage (contents_of self.old.draft) line.now last) }
-        ensures staged { staged self.old.stage (contents_of self.old.draft) ≡ true → IfOk result (λ ended. (staged self.new.stage (contents_of self.new.draft) ≡ true) × (ended ≡ true → ready (contents_of self.new.draft) ≡ true)) }
-        ensures wants { GivesOrWants (λ ended. record { stage = self.new.stage; held = contents_of self.new.draft; ended = ended }) result (line_read row self.old.stage (contents_of self.old.draft) line.now last) ((line_holds (line_read row self.old.stage (contents_of self.old.draft) line.now last) ≡ true) × SomeFull self.old.draft) }
+    fn read_line(&mut self, line: Short<'_>, row: usize, last: bool) -> Result<bool, ReadFault>
+        ensures { GivesOrWants (turned self.new) result (line_read row self.old.stage (contents_of self.old.draft) line.entry.bytes.now last) ((line_holds (line_read row self.old.stage (contents_of self.old.draft) line.entry.bytes.now last) ≡ true) × SomeFull self.old.draft) }
     {
         check_bytes(line, row, last)?;
         check_spaces(line, row)?;
@@ -92,13 +79,11 @@ impl Reader {
     }
 
     // All lines of a text.
-    fn read_lines(&mut self, text: &[u8]) -> Result<(), ReadFault>
-        requires { length text.now ≤ 16384 }
-        ensures does { Gives (λ _. contents_of self.new.draft) result (lines_read 1 self.old.stage (contents_of self.old.draft) (split 10 text.now)) }
-        ensures ready { staged self.old.stage (contents_of self.old.draft) ≡ true → OnOk result (ready (contents_of self.new.draft) ≡ true) }
-        ensures wants { GivesOrWants (λ _. contents_of self.new.draft) result (lines_read 1 self.old.stage (contents_of self.old.draft) (split 10 text.now)) (some_held 1 self.old.stage (contents_of self.old.draft) (split 10 text.now) ≡ true) }
+    fn read_lines(&mut self, text: Short<'_>) -> Result<(), ReadFault>
+        ensures { GivesOrWants (λ _. contents_of self.new.draft) result (lines_read 1 self.old.stage (contents_of self.old.draft) (split 10 text.entry.bytes.now)) (some_held 1 self.old.stage (contents_of self.old.draft) (split 10 text.entry.bytes.now) ≡ true) }
     {
         let mut lines = Pieces::new(text, b'\n');
+        // Counted by hand: the loop also asks the lines whether one is left, so no adapter may hold them.
         let mut row = 1;
         while let Some(line) = lines.next() {
             let ended = self.read_line(line, row, lines.is_done())?;
@@ -114,40 +99,20 @@ impl Reader {
     }
 }
 
-// Reads a text of at most 16,384 bytes.
-fn read_short(text: &[u8], session: &mut Session, heap: Global) -> Result<(), ReadFault>
-    requires { length text.now ≤ 16384 }
-    ensures does { Gives (λ _. contents (held session.new)) result (lines_read 1 Head no_contents (split 10 text.now)) }
-    ensures refused { OnErr result (held session.new ≡ held session.old) }
-    ensures wants { GivesOrWants (λ _. contents (held session.new)) result (lines_read 1 Head no_contents (split 10 text.now)) (some_held 1 Head no_contents (split 10 text.now) ≡ true) }
-{
-    let mut reader = Reader::new(heap);
-    reader.read_lines(text)?;
-    *session = reader.draft.finish(heap);
-    Ok(())
-}
-
-// Reads a text by the definition of reading.
-fn read_text(text: &[u8], session: &mut Session, heap: Global) -> Result<(), ReadFault>
-    ensures does { Gives (λ _. contents (held session.new)) result (reading text.now) }
-    ensures refused { OnErr result (held session.new ≡ nothing) }
-    ensures wants { GivesOrWants (λ _. contents (held session.new)) result (reading text.now) (may_want text.now ≡ true) }
-{
-    *session = Session::empty(heap);
-    if text.len() > 16384 {
-        return Err(ReadFault::Long);
-    }
-    read_short(text, session, heap)
-}
-
 // Reads a session text. The session then holds what the text says; where the text is refused or memory lacks, it is the
 // empty session. The texts that are accepted are the spellings of well-formed scripts. Memory is wanted only where the
 // lines are all right up to the first node's.
 pub fn read(text: &[u8], session: &mut Session, heap: Global) -> Result<(), ReadFault>
-    ensures does { Gives (λ _. contents (held session.new)) result (reading text.now) }
     ensures refused { OnErr result (held session.new ≡ nothing) }
     ensures wants { GivesOrWants (λ _. contents (held session.new)) result (reading text.now) (may_want text.now ≡ true) }
     ensures accepts { Accepts result text.now (contents (held session.new)) }
 {
-    read_text(text, session, heap)
+    *session = Session::empty(heap);
+    let Some(text) = Short::new(text) else {
+        return Err(ReadFault::Long);
+    };
+    let mut reader = Reader::new(heap);
+    reader.read_lines(text)?;
+    *session = reader.draft.finish(heap);
+    Ok(())
 }

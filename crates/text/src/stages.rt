@@ -14,8 +14,8 @@ pub enum Stage {
     Lines,
 }
 
-// The first word of a line.
-#[derive(Clone, Copy)]
+// The first word of a line. `Other` has its row in each table of the format, so an Option would only add a match to it.
+#[derive(Clone, Copy, PartialEq, Eq)]
 pub enum First {
     Session,
     Unit,
@@ -26,6 +26,7 @@ pub enum First {
     Other,
 }
 
+// The first word of a line. A match on byte strings was tried: the search leaves the arm of `session`, the longest.
 pub fn first_of(word: &Token<'_>) -> First
     ensures { result ≡ first_of (spelt word.now.word) }
 {
@@ -47,7 +48,8 @@ pub fn first_of(word: &Token<'_>) -> First
 }
 
 impl Stage {
-    // Goes on by a first word; false, and it stays, where that may not come now.
+    // Goes on by a first word; false, and it stays, where that may not come now. The project sets this form: one match on
+    // state and first word that changes the reader.
     pub fn advance(&mut self, first: First) -> bool
         ensures due { result ≡ is_some (next_stage self.old first) }
         ensures after { self.new ≡ unwrap_or (next_stage self.old first) self.old }

@@ -1,7 +1,7 @@
-ghost use Rattle.std.specs.Prelude.{◌≡◌, true, is_ok, OnOk};
-ghost use Rattle.turns.specs.Turns.{Does, DoesOrWants};
+ghost use Rattle.std.specs.Prelude.{◌≡◌, true, is_ok};
+ghost use Rattle.turns.specs.Turns.{DoesOrWants};
 ghost use Rattle.session.specs.Drafts.{draft as contents_of};
-ghost use Rattle.text.specs.Turning.{Grows, RoomUsed, turn};
+ghost use Rattle.text.specs.Turning.{RoomUsed, turn};
 ghost use Rattle.words.specs.Words.{cursor, item};
 
 use crate::stages::First;
@@ -17,9 +17,7 @@ pub fn turn(
     word: &Token<'_>,
     words: &mut Words<'_>,
 ) -> Result<(), ReadFault>
-    ensures does { Does (λ _. contents_of draft.new) result (cursor words.new) (turn first (contents_of draft.old) (item word.now) (cursor words.old)) }
-    ensures wants { DoesOrWants (λ _. contents_of draft.new) result (cursor words.new) (turn first (contents_of draft.old) (item word.now) (cursor words.old)) ((is_ok (turn first (contents_of draft.old) (item word.now) (cursor words.old)) ≡ true) × RoomUsed first draft.old) }
-    ensures grows { OnOk result (Grows first (contents_of draft.old) (contents_of draft.new)) }
+    ensures { DoesOrWants (λ _. contents_of draft.new) result (cursor words.new) (turn first (contents_of draft.old) (item word.now) (cursor words.old)) ((is_ok (turn first (contents_of draft.old) (item word.now) (cursor words.old)) ≡ true) × RoomUsed first draft.old) }
 {
     match first {
         First::Session => session_turn(draft, words),

@@ -2,6 +2,7 @@
 use Rattle.std.specs.Prelude.{◌≡◌, Bool, true, false, ◌⊎◌, Ok, Err, Result}
 use Rattle.forms.specs.Forms.{line_form, node_form, session_form, unit_form}
 use Rattle.session.specs.Contents.{Contents, with_line, with_node, with_rate, with_unit}
+use Rattle.session.specs.declared.sessions.drafts.DraftFault.{DraftFault}
 use Rattle.words.specs.Parsing.{Parse, ◌>>=◌, give}
 use Rattle.words.specs.Words.{Cursor, Item}
 use Rattle.words.specs.declared.faults.ReadFault.{ReadFault}
@@ -31,10 +32,10 @@ wants_memory (Full p) = false
 wants_memory (Rest p) = false
 wants_memory NoMemory = true
 
--- A call does what the definition says, or wants memory.
-abbrev pub Does : {T X : Type 0} → (T → X) → Result T ReadFault → Cursor → Result (X × Cursor) ReadFault → Type 0
-Does f (Ok t) k spec = spec ≡ Ok (f t, k)
-Does f (Err e) k spec = wants_memory e ≡ false → spec ≡ Err e
+-- What reading answers to an addition that fits: it is made, or memory lacks.
+abbrev pub for_memory : Result (Unit {0}) DraftFault → Result (Unit {0}) ReadFault
+for_memory (Ok u) = Ok u
+for_memory (Err e) = Err NoMemory
 
 -- A call does what the definition says, or it wants memory where May holds.
 abbrev pub DoesOrWants : {T X : Type 0} → (T → X) → Result T ReadFault → Cursor → Result (X × Cursor) ReadFault → Type 0 → Type 0

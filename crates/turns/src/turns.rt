@@ -1,8 +1,8 @@
-ghost use Rattle.std.specs.Prelude.{◌≡◌, ◌+◌, ◌<◌, ◌≤◌, true, length, is_ok, OnErr, OnOk};
+ghost use Rattle.std.specs.Prelude.{◌≡◌, true, is_ok, Err, OnErr};
 ghost use Rattle.session.specs.Contents.{is_set};
 ghost use Rattle.session.specs.Drafts.{LinesFull, NodesFull, draft as contents_of};
 ghost use Rattle.forms.specs.Forms.{bypass_form, given_layer, layer_form, trim_form};
-ghost use Rattle.turns.specs.Turns.{Does, DoesOrWants, line_turn, node_turn, session_turn, unit_turn};
+ghost use Rattle.turns.specs.Turns.{DoesOrWants, for_memory, line_turn, node_turn, session_turn, unit_turn};
 ghost use Rattle.words.specs.Parsing.{paired};
 ghost use Rattle.words.specs.Words.{cursor, item};
 
@@ -12,30 +12,35 @@ use units::settings::TrimSettings;
 use words::faults::ReadFault;
 use words::words::{Token, Words};
 
+// What a draft answers to an addition that fits it: the addition is made, or memory lacks.
+fn fitting(answer: Result<(), DraftFault>) -> Result<(), ReadFault>
+    requires { answer ≡ Err DraftFault.Unfit → ⊥ }
+    ensures { result ≡ for_memory answer }
+{
+    match answer {
+        Ok(()) => Ok(()),
+        Err(DraftFault::NoMemory) => Err(ReadFault::NoMemory),
+        Err(DraftFault::Unfit) => unreachable(),
+    }
+}
+
+// The draft and the words stay two parameters: lent in one struct they make each clause longer, and leave a caller's proof.
 pub fn session_turn(draft: &mut Draft, words: &mut Words<'_>) -> Result<(), ReadFault>
-    ensures does { Does (λ _. contents_of draft.new) result (cursor words.new) (session_turn (contents_of draft.old) (cursor words.old)) }
-    ensures rate { OnOk result (0 < (contents_of draft.new).rate) }
-    ensures nodes { OnOk result ((contents_of draft.new).nodes ≡ (contents_of draft.old).nodes) }
     ensures exact { paired (λ _. contents_of draft.new) result (cursor words.new) ≡ session_turn (contents_of draft.old) (cursor words.old) }
     ensures stays { OnErr result (contents_of draft.new ≡ contents_of draft.old) }
 {
     let rate = session(words)?;
-    draft.set_rate(rate);
-    Ok(())
+    fitting(draft.set_rate(rate))
 }
 
 pub fn unit_turn(draft: &mut Draft, words: &mut Words<'_>) -> Result<(), ReadFault>
-    ensures does { Does (λ _. contents_of draft.new) result (cursor words.new) (unit_turn (contents_of draft.old) (cursor words.old)) }
-    ensures rate { OnOk result ((contents_of draft.new).rate ≡ (contents_of draft.old).rate) }
-    ensures nodes { OnOk result ((contents_of draft.new).nodes ≡ (contents_of draft.old).nodes) }
     ensures exact { paired (λ _. contents_of draft.new) result (cursor words.new) ≡ unit_turn (contents_of draft.old) (cursor words.old) }
     ensures stays { OnErr result (contents_of draft.new ≡ contents_of draft.old) }
 {
     let s = numbered(draft, Role::NewUnit, words)?;
     let kind = kind(words, s)?;
     words.end()?;
-    draft.set_unit(s, kind);
-    Ok(())
+    fitting(draft.set_unit(s, kind))
 }
 
 fn trim_layer(
@@ -45,9 +50,6 @@ fn trim_layer(
     words: &mut Words<'_>,
 ) -> Result<(), ReadFault>
     requires { is_set (contents_of draft.old) s ≡ true }
-    ensures does { Does (λ _. contents_of draft.new) result (cursor words.new) (trim_form (contents_of draft.old) s (item word.now) (cursor words.old)) }
-    ensures rate { OnOk result ((contents_of draft.new).rate ≡ (contents_of draft.old).rate) }
-    ensures nodes { OnOk result ((contents_of draft.new).nodes ≡ (contents_of draft.old).nodes) }
     ensures exact { paired (λ _. contents_of draft.new) result (cursor words.new) ≡ trim_form (contents_of draft.old) s (item word.now) (cursor words.old) }
     ensures stays { OnErr result (contents_of draft.new ≡ contents_of draft.old) }
 {
@@ -56,8 +58,7 @@ fn trim_layer(
     }
     let gain = gain(words)?;
     words.end()?;
-    draft.give_trim(s, TrimSettings { gain });
-    Ok(())
+    fitting(draft.give_trim(s, TrimSettings { gain }))
 }
 
 fn bypass_layer(
@@ -67,9 +68,6 @@ fn bypass_layer(
     words: &mut Words<'_>,
 ) -> Result<(), ReadFault>
     requires { is_set (contents_of draft.old) s ≡ true }
-    ensures does { Does (λ _. contents_of draft.new) result (cursor words.new) (bypass_form (contents_of draft.old) s (item word.now) (cursor words.old)) }
-    ensures rate { OnOk result ((contents_of draft.new).rate ≡ (contents_of draft.old).rate) }
-    ensures nodes { OnOk result ((contents_of draft.new).nodes ≡ (contents_of draft.old).nodes) }
     ensures exact { paired (λ _. contents_of draft.new) result (cursor words.new) ≡ bypass_form (contents_of draft.old) s (item word.now) (cursor words.old) }
     ensures stays { OnErr result (contents_of draft.new ≡ contents_of draft.old) }
 {
@@ -77,8 +75,7 @@ fn bypass_layer(
         return Err(ReadFault::Fit(word.place));
     }
     words.end()?;
-    draft.give_bypass(s);
-    Ok(())
+    fitting(draft.give_bypass(s))
 }
 
 fn given_layer(
@@ -88,9 +85,6 @@ fn given_layer(
     words: &mut Words<'_>,
 ) -> Result<(), ReadFault>
     requires { is_set (contents_of draft.old) s ≡ true }
-    ensures does { Does (λ _. contents_of draft.new) result (cursor words.new) (given_layer (contents_of draft.old) s (item word.now) (cursor words.old)) }
-    ensures rate { OnOk result ((contents_of draft.new).rate ≡ (contents_of draft.old).rate) }
-    ensures nodes { OnOk result ((contents_of draft.new).nodes ≡ (contents_of draft.old).nodes) }
     ensures exact { paired (λ _. contents_of draft.new) result (cursor words.new) ≡ given_layer (contents_of draft.old) s (item word.now) (cursor words.old) }
     ensures stays { OnErr result (contents_of draft.new ≡ contents_of draft.old) }
 {
@@ -104,9 +98,6 @@ fn given_layer(
 }
 
 pub fn layer_turn(draft: &mut Draft, words: &mut Words<'_>) -> Result<(), ReadFault>
-    ensures does { Does (λ _. contents_of draft.new) result (cursor words.new) (layer_form (contents_of draft.old) (cursor words.old)) }
-    ensures rate { OnOk result ((contents_of draft.new).rate ≡ (contents_of draft.old).rate) }
-    ensures nodes { OnOk result ((contents_of draft.new).nodes ≡ (contents_of draft.old).nodes) }
     ensures exact { paired (λ _. contents_of draft.new) result (cursor words.new) ≡ layer_form (contents_of draft.old) (cursor words.old) }
     ensures stays { OnErr result (contents_of draft.new ≡ contents_of draft.old) }
 {
@@ -116,18 +107,11 @@ pub fn layer_turn(draft: &mut Draft, words: &mut Words<'_>) -> Result<(), ReadFa
 }
 
 pub fn node_turn(draft: &mut Draft, words: &mut Words<'_>) -> Result<(), ReadFault>
-    ensures does { Does (λ _. contents_of draft.new) result (cursor words.new) (node_turn (contents_of draft.old) (cursor words.old)) }
-    ensures rate { OnOk result ((contents_of draft.new).rate ≡ (contents_of draft.old).rate) }
-    ensures nodes { OnOk result (length (contents_of draft.new).nodes ≡ length (contents_of draft.old).nodes + 1) }
     ensures wants { DoesOrWants (λ _. contents_of draft.new) result (cursor words.new) (node_turn (contents_of draft.old) (cursor words.old)) ((is_ok (node_turn (contents_of draft.old) (cursor words.old)) ≡ true) × NodesFull draft.old) }
     ensures stays { OnErr result (contents_of draft.new ≡ contents_of draft.old) }
 {
     let node = node(draft, words)?;
-    match draft.add_node(node) {
-        Ok(()) => Ok(()),
-        Err(DraftFault::NoMemory) => Err(ReadFault::NoMemory),
-        Err(DraftFault::Unfit) => unreachable(),
-    }
+    fitting(draft.add_node(node))
 }
 
 pub fn line_turn(
@@ -135,16 +119,9 @@ pub fn line_turn(
     word: &Token<'_>,
     words: &mut Words<'_>,
 ) -> Result<(), ReadFault>
-    ensures does { Does (λ _. contents_of draft.new) result (cursor words.new) (line_turn (contents_of draft.old) (item word.now) (cursor words.old)) }
-    ensures rate { OnOk result ((contents_of draft.new).rate ≡ (contents_of draft.old).rate) }
-    ensures nodes { OnOk result ((contents_of draft.new).nodes ≡ (contents_of draft.old).nodes) }
     ensures wants { DoesOrWants (λ _. contents_of draft.new) result (cursor words.new) (line_turn (contents_of draft.old) (item word.now) (cursor words.old)) ((is_ok (line_turn (contents_of draft.old) (item word.now) (cursor words.old)) ≡ true) × LinesFull draft.old) }
     ensures stays { OnErr result (contents_of draft.new ≡ contents_of draft.old) }
 {
     let line = line(draft, word, words)?;
-    match draft.add_line(line) {
-        Ok(()) => Ok(()),
-        Err(DraftFault::NoMemory) => Err(ReadFault::NoMemory),
-        Err(DraftFault::Unfit) => unreachable(),
-    }
+    fitting(draft.add_line(line))
 }

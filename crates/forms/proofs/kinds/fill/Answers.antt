@@ -1,5 +1,5 @@
-use Rattle.std.proofs.Common.{◌≡◌, suc, ◌+◌, ◌-◌, set, sym, ap, ◌∙◌, arith, w16, SFits, rules}
-use Rattle.std.proofs.lemmas.List.{length-set}
+use Rattle.std.proofs.Common.{◌≡◌, suc, ◌+◌, ◌-◌, ◌<◌, ◌++◌, drop, take, set, Ok, sym, ap, ◌∙◌, arith, w16, SFits, rules}
+use Rattle.std.proofs.lemmas.List.{set-append_left, length-take-le, take-append-drop}
 use Rattle.std.proofs.lemmas.Result.{err_from_is_err_and}
 use Rattle.std.proofs.lemmas.Int.{to_z-of_z}
 use Rattle.forms.proofs.Taps.{taps_end, taps_more, taps_stop}
@@ -7,26 +7,39 @@ use Rattle.forms.proofs.kinds.fill.Goals as goal
 use Rattle.forms.specs.Forms.{taps_form}
 use Rattle.words.specs.Words.{cursor}
 
-pub returns-in_err-taps : goal.returns-in_err-taps
-returns-in_err-taps c =
-    let p = err_from_is_err_and c.from_residual.result c.from_residual.ensures.1 in
-    let n : c.args.count - c.loop-i.i ≡ suc (c.args.count - (c.loop-i.i + 1)) = omega arith in
-    rw (p.1, p.2) (sym (ap (λ m. taps_form c.loop-i.i m c.loop-i.taps (cursor c.loop-i.words)) n
-    ∙ taps_stop c.loop-i.i _ c.loop-i.taps (cursor c.loop-i.words) _ c.in_err-taps.ensures.value) ∙ c.loop-i.invariant.0)
+pub loop-tap-init : goal.loop-tap-init
+loop-tap-init c =
+    let z : c.args.count - 0 ≡ c.args.count = omega arith in
+    ap (λ n. taps_form 0 n (take c.from.result c.args.taps.now ++ drop c.args.count c.args.taps.now) (cursor c.args.words.now)) z
+    ∙ ap (λ l. taps_form 0 c.args.count l (cursor c.args.words.now)) (ap (λ n. take n c.args.taps.now ++ drop c.args.count c.args.taps.now) c.from.ensures ∙ take-append-drop c.args.count c.args.taps.now)
 
-pub loop-i-preserved : goal.loop-i-preserved
-loop-i-preserved c =
-    let g = c.in_ok-taps.field-0 in
-    let f : SFits w16 c.in_ok-taps.field-0 = search rules in
-    let h = c.in_ok-taps.ensures.value in
-    let n : c.args.count - c.loop-i.i ≡ suc (c.args.count - (c.loop-i.i + 1)) = omega arith in (
-      ap (λ z. taps_form (c.loop-i.i + 1) (c.args.count - (c.loop-i.i + 1)) (set c.loop-i.taps c.loop-i.i z) (cursor c.gain.new.words)) (to_z-of_z w16 g f)
-          ∙ sym (ap (λ m. taps_form c.loop-i.i m c.loop-i.taps (cursor c.loop-i.words)) n ∙ taps_more c.loop-i.i _ c.loop-i.taps (cursor c.loop-i.words) g _ h)
-          ∙ c.loop-i.invariant.0,
-      length-set _ _ _ ∙ c.loop-i.invariant.1,
-    )
+pub returns-in_err-tap : goal.returns-in_err-tap
+returns-in_err-tap c =
+    let p = err_from_is_err_and c.from_residual.result c.from_residual.ensures.1 in
+    let i = c.loop-tap.tap-index in
+    let all = c.loop-tap.tap-items ++ drop c.args.count c.args.taps.now in
+    let few : i < c.args.count = search (rules, arith, length-take-le, c.loop-tap-test.true, c.loop-tap.auto, c.told-taps, c.requires, c.from.ensures) in
+    let n : c.args.count - i ≡ suc (c.args.count - (i + 1)) = omega arith in
+    rw (p.1, p.2) (sym (ap (λ m. taps_form i m all (cursor c.loop-tap.words)) n
+    ∙ taps_stop i _ all (cursor c.loop-tap.words) _ c.in_err-tap.ensures.value) ∙ c.loop-tap.invariant)
+
+pub loop-tap-preserved : goal.loop-tap-preserved
+loop-tap-preserved c =
+    let i = c.loop-tap.tap-index in
+    let rest = drop c.args.count c.args.taps.now in
+    let all = c.loop-tap.tap-items ++ rest in
+    let g = c.in_ok-tap.field-0 in
+    let f : SFits w16 c.in_ok-tap.field-0 = search rules in
+    let few : i < c.args.count = search (rules, arith, length-take-le, c.loop-tap-test.true, c.loop-tap.auto, c.told-taps, c.requires, c.from.ensures) in
+    let n : c.args.count - i ≡ suc (c.args.count - (i + 1)) = omega arith in
+    ap (λ z. taps_form (i + 1) (c.args.count - (i + 1)) (set c.loop-tap.tap-items i z ++ rest) (cursor c.gain.new.words)) (to_z-of_z w16 g f)
+    ∙ ap (λ l. taps_form (i + 1) (c.args.count - (i + 1)) l (cursor c.gain.new.words)) (sym (set-append_left c.loop-tap.tap-items rest i g (search (rules, arith, c.loop-tap-test.true, c.loop-tap.auto))))
+    ∙ sym (ap (λ m. taps_form i m all (cursor c.loop-tap.words)) n ∙ taps_more i _ all (cursor c.loop-tap.words) g _ c.in_ok-tap.ensures.value)
+    ∙ c.loop-tap.invariant
 
 pub returns : goal.returns
 returns c =
-    let n : c.args.count - c.loop-i.i ≡ 0 = omega arith in
-    sym (taps_end c.loop-i.i c.loop-i.taps (cursor c.loop-i.words)) ∙ ap (λ m. taps_form c.loop-i.i m c.loop-i.taps (cursor c.loop-i.words)) (sym n) ∙ c.loop-i.invariant.0
+    let i = c.loop-tap.tap-index in
+    let all = c.loop-tap.tap-items ++ drop c.args.count c.args.taps.now in
+    let n : c.args.count - i ≡ 0 = search (rules, arith, length-take-le, c.loop-tap-test.false, c.loop-tap.auto, c.told-taps, c.requires, c.from.ensures) in
+    ap (λ n. Ok (c.loop-tap.tap-items ++ drop n c.args.taps.now, cursor c.loop-tap.words)) c.from.ensures ∙ sym (taps_end i all (cursor c.loop-tap.words)) ∙ ap (λ m. taps_form i m all (cursor c.loop-tap.words)) (sym n) ∙ c.loop-tap.invariant

@@ -1,7 +1,7 @@
-use Rattle.std.proofs.Common.{◌≡◌, ◌-◌, length}
+use Rattle.std.proofs.Common.{◌≡◌, ◌-◌, ◌++◌, drop}
 use Rattle.forms.proofs.kinds.fill.Given as goal
 use Rattle.forms.specs.Forms.{taps_form}
 use Rattle.words.specs.Words.{cursor}
 
-abbrev pub invariant-loop-i : goal.invariant-loop-i
-invariant-loop-i l = (taps_form l.i (l.count - l.i) l.taps (cursor l.words) ≡ taps_form 0 l.count l.initial.taps (cursor l.initial.words)) × (length l.taps ≡ 31)
+abbrev pub invariant-loop-tap : goal.invariant-loop-tap
+invariant-loop-tap l = taps_form l.tap-index (l.count - l.tap-index) (l.tap-items ++ drop l.count l.fn.taps) (cursor l.words) ≡ taps_form 0 l.count l.fn.taps (cursor l.fn.words)
