@@ -29,18 +29,15 @@ impl Past {
         ensures { (k : ℕ) → k < 64 → heard self.new k ≡ then_heard (heard self.old) f k }
     {
         self.at = (self.at % 64 + 63) % 64;
-        self.frames[self.at as usize] = f;
+        self.frames[usize::from(self.at)] = f;
     }
 
     // The frame of k frames before the newest.
-    pub(crate) fn back(&self, k: u8) -> Frame
+    pub(crate) fn back(&self, k: usize) -> Frame
+        requires { k < 64 }
         ensures { result ≡ heard self.now k }
     {
-        if k < 64 {
-            self.frames[(self.at as usize + k as usize) % 64]
-        } else {
-            Frame::SILENCE
-        }
+        self.frames[(usize::from(self.at) + k) % 64]
     }
 
     // One more frame is heard, and the frame of k frames before it answered.
@@ -49,6 +46,6 @@ impl Past {
         ensures { (x : List Frame) → voice_after (delay_rule k) (heard self.old) (f ∷ x) ≡ result ∷ voice_after (delay_rule k) (heard self.new) x }
     {
         self.push(f);
-        self.back(k)
+        self.back(usize::from(k))
     }
 }

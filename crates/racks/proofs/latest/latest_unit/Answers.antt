@@ -16,7 +16,7 @@ loop-s-preserved g c =
     let units = g.R.Rack.units c.args.rack.now in
     let s = c.loop-s.s in
     let inside : s < length units = omega arith in
-    c.later-latest.ensures ∙ ap₂ max c.lateness.ensures c.loop-s.invariant
+    c.max-latest.ensures ∙ ap₂ max c.lateness.ensures c.loop-s.invariant
     ∙ sym (ap (greatest late) (take_more units s no_unit inside) ∙ greatest_push late (take s units) (unit units s))
 
 pub returns : goal.returns

@@ -6,5 +6,5 @@ use Rattle.voices.proofs.Looks.{greatest_counting_more}
 
 pub loop-k-preserved : goal.loop-k-preserved
 loop-k-preserved c =
-    c.max-peak.ensures ∙ ap₂ max (c.frame_size.ensures ∙ ap size c.back.ensures) c.loop-k.invariant
+    c.max-peak.ensures ∙ ap₂ max (c.frame_size.ensures ∙ ap size (c.back.ensures ∙ ap (heard c.args.past.now) c.from.ensures)) c.loop-k.invariant
     ∙ sym (greatest_counting_more (λ k. size (heard c.args.past.now k)) c.loop-k.k)
