@@ -1,18 +1,9 @@
 -- What a unit's own calls do to a rack that it stands in.
 use Rattle.std.proofs.Common.{◌≡◌, ℕ, zero, suc, ◌-◌, ◌<◌, ◌≤◌, List, [], ◌∷◌, ◌++◌, map, length, take, set, sym, refl, ap, ◌∙◌, arith}
-use mathlib.Core.Path.{fun_ext}
 use Rattle.frames.specs.declared.samples.Frame.{Frame}
-use Rattle.racks.specs.Rack.{answer, first_frame, heard_by, no_unit, rest_of, rested, stepped, unit}
+use Rattle.racks.specs.Rack.{heard_by, no_unit, rested, stepped, unit}
 use Rattle.std.proofs.lemmas.List.{get_or_append_left, get_or-append_right, get_or_past, get_or-take, length-take, map-append, set-append_left, set-append_right, set_past, take-map}
 use Rattle.voices.specs.Meaning.{Meaning}
-
--- a unit that has stepped, by what its `step` promises
-pub unit_stepped : (m n : Meaning Frame) (f r : Frame) → ((x : List Frame) → m.present (f ∷ x) ≡ r ∷ n.present x)
-    → n.late ≡ m.late → n.voice ≡ m.voice → (r ≡ answer m f) × (n ≡ heard_by m f)
-unit_stepped m n f r steps late voice = (
-  sym (ap first_frame (steps [])),
-  λ i. record { late = late i; voice = voice i; present = fun_ext (λ x. sym (ap rest_of (steps x))) i },
-)
 
 -- a unit at rest, by what its `rest` promises
 pub unit_rested : (m n : Meaning Frame) → n.present ≡ m.voice → n.late ≡ m.late → n.voice ≡ m.voice → n ≡ rested m

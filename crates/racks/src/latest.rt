@@ -7,9 +7,5 @@ use crate::interface::Rack;
 pub fn latest_unit<R: Rack>(rack: &R) -> u8
     ensures { result ≡ greatest (λ m. m.late) (R.units rack.now) }
 {
-    let mut latest = 0;
-    for s in 0..rack.count() {
-        latest = rack.lateness(s).max(latest);
-    }
-    latest
+    (0..rack.count()).fold(0, |latest, s| rack.lateness(s).max(latest))
 }

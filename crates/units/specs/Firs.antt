@@ -1,5 +1,5 @@
 -- That a fir keeps what its rule has to: proofs, which no reader of the definitions needs.
-use Rattle.std.proofs.Common.{◌≡◌, ℕ, ◌-◌, ◌/◌, ◌≤◌, length, sym, ap, arith}
+use Rattle.std.proofs.Common.{◌≡◌, ◌-◌, ◌/◌, length, ap, arith}
 use Rattle.frames.specs.Samples.{silence}
 use Rattle.std.proofs.lemmas.List.{length-take-le}
 use Rattle.units.specs.Taps.{taps_of}

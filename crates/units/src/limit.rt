@@ -17,15 +17,16 @@ fn frame_size(f: Frame) -> u16
 }
 
 // The greatest size of the newest frames.
-fn peak_within(past: &Past, frames: u8) -> u16
+fn peak_within(past: &Past, frames: usize) -> u16
     requires { frames ≤ 64 }
     ensures { result ≡ peak_within frames (heard past.now) }
 {
-    let mut peak = 0;
-    for k in 0..frames {
-        peak = frame_size(past.back(usize::from(k))).max(peak);
-    }
-    peak
+    (0..frames).fold(
+        0,
+        |peak, k| -> u16
+            requires { k < 64 }
+        { frame_size(past.back(k)).max(peak) },
+    )
 }
 
 // A sample times the ceiling over the peak, rounded toward zero.
@@ -80,8 +81,11 @@ impl Rule for LimitSettings {
     }
 
     fn answer(&self, past: &Past) -> Frame {
-        let peak = peak_within(past, self.lookahead + 1);
-        let ahead = past.back(usize::from(self.lookahead));
-        limit_frame(ahead, self.ceiling, peak)
+        let lookahead = usize::from(self.lookahead);
+        limit_frame(
+            past.back(lookahead),
+            self.ceiling,
+            peak_within(past, lookahead + 1),
+        )
     }
 }

@@ -8,6 +8,7 @@ ghost use Rattle.voices.specs.Rules.{then_heard, voice_after};
 use frames::samples::Frame;
 
 // The newest 64 frames that a unit has heard, the newest at the place `at` and each older one a place further round.
+// It is a ring of its own, since the kit's ring lies on the heap, and no unit allocates.
 #[derive(Drop)]
 pub struct Past {
     frames: [Frame; 64],
