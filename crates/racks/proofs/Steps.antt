@@ -2,7 +2,7 @@
 use Rattle.std.proofs.Common.{◌≡◌, ℕ, zero, suc, ◌-◌, ◌<◌, ◌≤◌, List, [], ◌∷◌, ◌++◌, map, length, take, set, sym, refl, ap, ◌∙◌, arith}
 use Rattle.frames.specs.declared.samples.Frame.{Frame}
 use Rattle.racks.specs.Rack.{heard_by, no_unit, rested, stepped, unit}
-use Rattle.std.proofs.lemmas.List.{get_or_append_left, get_or-append_right, get_or_past, get_or-take, length-take, map-append, set-append_left, set-append_right, set_past, take-map}
+use Rattle.std.proofs.lemmas.List.{get_or_append_left, get_or-append_right, get_or-take, map-append, set-append_left, set-append_right, take-map}
 use Rattle.voices.specs.Meaning.{Meaning}
 
 -- a unit at rest, by what its `rest` promises
@@ -22,12 +22,6 @@ module _ (us vs : List (Meaning Frame)) (s : ℕ) (few : length us ≤ 16) where
   pub pair_second : length us ≤ s → s < 16 → unit (take 16 (us ++ vs)) s ≡ unit vs (s - length us)
   pair_second h g = get_or-take 16 (us ++ vs) s no_unit g ∙ get_or-append_right us vs (length us) s no_unit refl h
 
-  short : 16 ≤ s → length (take 16 (us ++ vs)) ≤ s
-  short h = simp length-take (omega arith)
-
-  pub pair_past : 16 ≤ s → unit (take 16 (us ++ vs)) s ≡ no_unit
-  pair_past h = get_or_past (take 16 (us ++ vs)) s no_unit (short h)
-
   pub pair_steps_first : (f : Frame) → s < length us → stepped (take 16 (us ++ vs)) s f ≡ take 16 (stepped us s f ++ vs)
   pair_steps_first f h =
       ap (λ m. set (take 16 (us ++ vs)) s (heard_by m f)) (pair_first h)
@@ -39,9 +33,6 @@ module _ (us vs : List (Meaning Frame)) (s : ℕ) (few : length us ≤ 16) where
       ap (λ m. set (take 16 (us ++ vs)) s (heard_by m f)) (pair_second h g)
       ∙ set_take 16 s (us ++ vs) (heard_by (unit vs (s - length us)) f) g
       ∙ ap (take 16) (set-append_right us vs (length us) s (heard_by (unit vs (s - length us)) f) refl h)
-
-  pub pair_steps_past : (f : Frame) → 16 ≤ s → stepped (take 16 (us ++ vs)) s f ≡ take 16 (us ++ vs)
-  pair_steps_past f h = set_past (take 16 (us ++ vs)) s _ (short h)
 
 pub pair_rests : (us vs : List (Meaning Frame)) → map rested (take 16 (us ++ vs)) ≡ take 16 (map rested us ++ map rested vs)
 pair_rests us vs = sym (take-map rested 16 (us ++ vs)) ∙ ap (take 16) (map-append rested us vs)
