@@ -1,18 +1,9 @@
 -- What a unit's own calls do to a rack that it stands in.
 use Rattle.std.proofs.Common.{◌≡◌, ℕ, zero, suc, ◌-◌, ◌<◌, ◌≤◌, List, [], ◌∷◌, ◌++◌, map, length, take, set, sym, refl, ap, ◌∙◌, arith}
-use mathlib.Core.Path.{fun_ext}
 use Rattle.frames.specs.declared.samples.Frame.{Frame}
-use Rattle.racks.specs.Rack.{answer, first_frame, heard_by, no_unit, rest_of, rested, stepped, unit}
-use Rattle.std.proofs.lemmas.List.{get_or_append_left, get_or-append_right, get_or_past, get_or-take, length-take, map-append, set-append_left, set-append_right, set_past, take-map}
+use Rattle.racks.specs.Rack.{heard_by, no_unit, rested, stepped, unit}
+use Rattle.std.proofs.lemmas.List.{get_or_append_left, get_or-append_right, get_or-take, map-append, set-append_left, set-append_right, take-map}
 use Rattle.voices.specs.Meaning.{Meaning}
-
--- a unit that has stepped, by what its `step` promises
-pub unit_stepped : (m n : Meaning Frame) (f r : Frame) → ((x : List Frame) → m.present (f ∷ x) ≡ r ∷ n.present x)
-    → n.late ≡ m.late → n.voice ≡ m.voice → (r ≡ answer m f) × (n ≡ heard_by m f)
-unit_stepped m n f r steps late voice = (
-  sym (ap first_frame (steps [])),
-  λ i. record { late = late i; voice = voice i; present = fun_ext (λ x. sym (ap rest_of (steps x))) i },
-)
 
 -- a unit at rest, by what its `rest` promises
 pub unit_rested : (m n : Meaning Frame) → n.present ≡ m.voice → n.late ≡ m.late → n.voice ≡ m.voice → n ≡ rested m
@@ -31,12 +22,6 @@ module _ (us vs : List (Meaning Frame)) (s : ℕ) (few : length us ≤ 16) where
   pub pair_second : length us ≤ s → s < 16 → unit (take 16 (us ++ vs)) s ≡ unit vs (s - length us)
   pair_second h g = get_or-take 16 (us ++ vs) s no_unit g ∙ get_or-append_right us vs (length us) s no_unit refl h
 
-  short : 16 ≤ s → length (take 16 (us ++ vs)) ≤ s
-  short h = simp length-take (omega arith)
-
-  pub pair_past : 16 ≤ s → unit (take 16 (us ++ vs)) s ≡ no_unit
-  pair_past h = get_or_past (take 16 (us ++ vs)) s no_unit (short h)
-
   pub pair_steps_first : (f : Frame) → s < length us → stepped (take 16 (us ++ vs)) s f ≡ take 16 (stepped us s f ++ vs)
   pair_steps_first f h =
       ap (λ m. set (take 16 (us ++ vs)) s (heard_by m f)) (pair_first h)
@@ -48,9 +33,6 @@ module _ (us vs : List (Meaning Frame)) (s : ℕ) (few : length us ≤ 16) where
       ap (λ m. set (take 16 (us ++ vs)) s (heard_by m f)) (pair_second h g)
       ∙ set_take 16 s (us ++ vs) (heard_by (unit vs (s - length us)) f) g
       ∙ ap (take 16) (set-append_right us vs (length us) s (heard_by (unit vs (s - length us)) f) refl h)
-
-  pub pair_steps_past : (f : Frame) → 16 ≤ s → stepped (take 16 (us ++ vs)) s f ≡ take 16 (us ++ vs)
-  pair_steps_past f h = set_past (take 16 (us ++ vs)) s _ (short h)
 
 pub pair_rests : (us vs : List (Meaning Frame)) → map rested (take 16 (us ++ vs)) ≡ take 16 (map rested us ++ map rested vs)
 pair_rests us vs = sym (take-map rested 16 (us ++ vs)) ∙ ap (take 16) (map-append rested us vs)

@@ -22,17 +22,17 @@ impl<P: Rack, Q: Rack> Pair<P, Q> {
         self.first.count() + self.second.count()
     }
 
-    // Where unit `s` of the pair stands.
-    fn find(&self, s: u8) -> Side
+    // Where unit `s` of the pair stands, if the pair has it.
+    fn find(&self, s: u8) -> Option<Side>
         ensures { Stands (P.Rack.units self.now.first) (Q.Rack.units self.now.second) s result }
     {
         let before = self.first.count();
         if s < before {
-            Side::First(s)
+            Some(Side::First(s))
         } else if s < 16 {
-            Side::Second(s - before)
+            Some(Side::Second(s - before))
         } else {
-            Side::Neither
+            None
         }
     }
 
@@ -52,23 +52,22 @@ impl<P: Rack, Q: Rack> Rack for Pair<P, Q> {
     ghost lawful = { λ r. pair_lawful (P.Rack.units r.first) (Q.Rack.units r.second) (P.Rack.lawful r.first) (Q.Rack.lawful r.second) };
 
     fn count(&self) -> u8 {
-        let both = self.both();
-        if both < 16 { both } else { 16 }
+        self.both().min(16)
     }
 
     fn lateness(&self, s: u8) -> u8 {
         match self.find(s) {
-            Side::First(i) => self.first.lateness(i),
-            Side::Second(i) => self.second.lateness(i),
-            Side::Neither => 0,
+            Some(Side::First(i)) => self.first.lateness(i),
+            Some(Side::Second(i)) => self.second.lateness(i),
+            None => 0,
         }
     }
 
     fn step(&mut self, s: u8, f: Frame) -> Frame {
         match self.find(s) {
-            Side::First(i) => self.first.step(i, f),
-            Side::Second(i) => self.second.step(i, f),
-            Side::Neither => Frame::SILENCE,
+            Some(Side::First(i)) => self.first.step(i, f),
+            Some(Side::Second(i)) => self.second.step(i, f),
+            None => Frame::SILENCE,
         }
     }
 

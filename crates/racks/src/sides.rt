@@ -3,5 +3,4 @@
 pub enum Side {
     First(u8),
     Second(u8),
-    Neither,
 }

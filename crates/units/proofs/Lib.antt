@@ -1,3 +1,4 @@
+pub mod Peaks
 pub mod Reducing
 pub mod Rested
 pub mod Rings

@@ -6,10 +6,7 @@ use Rattle.units.specs.Meanings.{Rests}
 use Rattle.voices.proofs.Looks.{fresh, rests}
 use Rattle.voices.specs.Kinds.{bypass_over, delay_rule}
 use Rattle.voices.specs.Meaning.{Meaning}
-use Rattle.voices.specs.Rules.{by_rule, by_rule_after, voice_by}
-
-pub rule_rests : (late : ℕ) (rule : (ℕ → Frame) → Frame) (past : ℕ → Frame) → past ≡ (λ _. silence) → Rests (by_rule silence late rule) (by_rule_after silence late rule past)
-rule_rests late rule past e = record { present = rests rule past e; late = refl; voice = refl }
+use Rattle.voices.specs.Rules.{by_rule_after, voice_by}
 
 pub bypass_fresh : (on : Bool) (past : ℕ → Frame) (m : Meaning Frame) → past ≡ (λ _. silence) → cond on (by_rule_after silence m.late (delay_rule m.late) past) m ≡ bypass_over on m
 bypass_fresh true past m e = fresh m.late (delay_rule m.late) past e

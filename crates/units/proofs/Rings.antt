@@ -1,10 +1,10 @@
 -- A ring of 64 frames, after one more is written.
-use Rattle.std.proofs.Common.{◌≡◌, ℕ, zero, suc, ◌+◌, ◌%◌, ◌<◌, ◌≤◌, ltb, length, get_or, set, replicate, sym, refl, ap, ◌∙◌, arith}
+use Rattle.std.proofs.Common.{◌≡◌, ℕ, zero, suc, ◌+◌, ◌%◌, ◌<◌, ltb, length, get_or, set, replicate, sym, refl, ap, ◌∙◌, arith}
 use mathlib.Core.Path.{fun_ext}
 use Rattle.frames.specs.Samples.{silence}
 use Rattle.frames.specs.declared.samples.Frame.{Frame}
 use Rattle.std.proofs.lemmas.List.{get_or-set_other, get_or-set_same}
-use Rattle.std.proofs.lemmas.Bool.{cond_both, cond-false, cond-true, le-ltb, lt-ltb}
+use Rattle.std.proofs.lemmas.Bool.{cond_both, cond-true, lt-ltb}
 use Rattle.units.specs.Heard.{heard}
 use Rattle.units.specs.declared.past.Past.{Past}
 use Rattle.voices.specs.Rules.{then_heard}
@@ -22,11 +22,7 @@ pub heard_within : (past : Past) (k : ℕ) → k < 64 → heard past k ≡ get_o
 unfolding heard
 heard_within past k h = cond-true (ltb k 64) _ _ (lt-ltb k 64 h)
 
-pub heard_beyond : (past : Past) (k : ℕ) → 64 ≤ k → heard past k ≡ silence
-unfolding heard
-heard_beyond past k h = cond-false (ltb k 64) _ _ (le-ltb k 64 h)
-
--- `at` is any place that comes just before `old`
+-- the place of `new` is any that comes just before that of `old`
 pub heard_more : (old new : Past) (f : Frame) → length old.frames ≡ 64 → new.at < 64 → (new.at + 1) % 64 ≡ old.at % 64 → new.frames ≡ set old.frames new.at f
     → (k : ℕ) → k < 64 → heard new k ≡ then_heard (heard old) f k
 heard_more old new f full inside next e zero h =

@@ -1,3 +1,4 @@
+pub mod Firs
 pub mod Heard
 pub mod Limits
 pub mod Meanings

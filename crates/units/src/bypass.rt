@@ -22,12 +22,6 @@ impl<U: Unit> Bypass<U> {
     pub fn new(unit: U, settings: BypassSettings) -> Bypass<U>
         ensures { bypass_meaning U.Unit.meaning result ≡ bypass_over settings.on (U.Unit.meaning unit) }
     {
-        Bypass::rested(unit, settings)
-    }
-
-    fn rested(unit: U, settings: BypassSettings) -> Bypass<U>
-        ensures { bypass_meaning U.Unit.meaning result ≡ bypass_over settings.on (U.Unit.meaning unit) }
-    {
         Bypass {
             unit,
             settings,
@@ -57,17 +51,13 @@ impl<U: Unit> Unit for Bypass<U> {
 
     const MAX_LATENESS: u8 = U::MAX_LATENESS;
 
-    ghost most = { U.Unit.most };
+    ghost MAX_LATENESS = { U.MAX_LATENESS };
 
     ghost meaning = { bypass_meaning U.Unit.meaning };
 
     ghost lawful = { λ u. bypass_lawful u.settings.on (heard u.past) (U.Unit.meaning u.unit) (U.Unit.lawful u.unit) };
 
-    ghost within = { λ u. bypass_within u.settings.on (heard u.past) (U.Unit.meaning u.unit) U.Unit.most (U.Unit.within u.unit) };
-
-    fn greatest_lateness() -> u8 {
-        U::greatest_lateness()
-    }
+    ghost within = { λ u. bypass_within u.settings.on (heard u.past) (U.Unit.meaning u.unit) U.MAX_LATENESS (U.Unit.within u.unit) };
 
     fn lateness(&self) -> u8 {
         self.unit.lateness()

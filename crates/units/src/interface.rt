@@ -11,20 +11,23 @@ pub trait Unit {
     // What this kind is set by.
     type Settings;
 
-    // How late a unit of this kind can be; `most` is this number in clauses.
+    // How late a unit of this kind can be.
     const MAX_LATENESS: u8;
 
-    ghost most: { ℕ };
+    ghost MAX_LATENESS: { ℕ };
 
     ghost meaning: { Self → Meaning Frame };
 
     ghost lawful: { (u : Self) → Lawful silence (meaning u) };
 
-    ghost within: { (u : Self) → (meaning u).late ≤ most };
+    ghost within: { (u : Self) → (meaning u).late ≤ MAX_LATENESS };
 
-    // The constant, told to clauses.
-    fn greatest_lateness() -> u8
-        ensures { result ≡ most };
+    // The constant, told to callers.
+    final fn greatest_lateness() -> u8
+        ensures { result ≡ MAX_LATENESS }
+    {
+        Self::MAX_LATENESS
+    }
 
     fn lateness(&self) -> u8
         ensures { result ≡ (meaning self.now).late };

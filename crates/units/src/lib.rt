@@ -8,6 +8,7 @@ pub mod interface;
 pub mod limit;
 pub mod pan;
 mod past;
+mod ruled;
 pub mod settings;
 pub mod trim;
 

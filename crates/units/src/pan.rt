@@ -69,8 +69,11 @@ impl Pan {
         ensures { result ≡ panned self.now.settings.position f }
     {
         Frame {
-            left: weigh(f.left, weight_of(self.settings.position as usize)),
-            right: weigh(f.right, weight_of(256 - self.settings.position as usize)),
+            left: weigh(f.left, weight_of(usize::from(self.settings.position))),
+            right: weigh(
+                f.right,
+                weight_of(256 - usize::from(self.settings.position)),
+            ),
         }
     }
 
@@ -86,17 +89,13 @@ impl Unit for Pan {
 
     const MAX_LATENESS: u8 = 0;
 
-    ghost most = { 0 };
+    ghost MAX_LATENESS = { 0 };
 
     ghost meaning = { pan_meaning };
 
     ghost lawful = { λ u. pan_lawful u.settings.position };
 
     ghost within = { λ u. zero-le };
-
-    fn greatest_lateness() -> u8 {
-        Self::MAX_LATENESS
-    }
 
     fn lateness(&self) -> u8 {
         0

@@ -8,6 +8,7 @@ ghost use Rattle.voices.specs.Rules.{then_heard, voice_after};
 use frames::samples::Frame;
 
 // The newest 64 frames that a unit has heard, the newest at the place `at` and each older one a place further round.
+// It is a ring of its own, since the kit's ring lies on the heap, and no unit allocates.
 #[derive(Drop)]
 pub struct Past {
     frames: [Frame; 64],
@@ -29,18 +30,15 @@ impl Past {
         ensures { (k : ℕ) → k < 64 → heard self.new k ≡ then_heard (heard self.old) f k }
     {
         self.at = (self.at % 64 + 63) % 64;
-        self.frames[self.at as usize] = f;
+        self.frames[usize::from(self.at)] = f;
     }
 
     // The frame of k frames before the newest.
-    pub(crate) fn back(&self, k: u8) -> Frame
+    pub(crate) fn back(&self, k: usize) -> Frame
+        requires { k < 64 }
         ensures { result ≡ heard self.now k }
     {
-        if k < 64 {
-            self.frames[(self.at as usize + k as usize) % 64]
-        } else {
-            Frame::SILENCE
-        }
+        self.frames[(usize::from(self.at) + k) % 64]
     }
 
     // One more frame is heard, and the frame of k frames before it answered.
@@ -49,6 +47,6 @@ impl Past {
         ensures { (x : List Frame) → voice_after (delay_rule k) (heard self.old) (f ∷ x) ≡ result ∷ voice_after (delay_rule k) (heard self.new) x }
     {
         self.push(f);
-        self.back(k)
+        self.back(usize::from(k))
     }
 }

@@ -2,6 +2,7 @@ ghost use Rattle.std.specs.Prelude.{◌≡◌, length, MatchOption};
 ghost use Rattle.units.specs.Ranges.{FirRange, LimitRange, PanRange, DelayRange};
 
 // What a fir is set by: the first `count` of the taps, for the newest frame first.
+// The count stands beside the taps: settings are copied out of a session's table, and a list with its own length is no plain copy.
 #[derive(Clone, Copy)]
 pub struct FirSettings {
     pub taps: [i16; 31],

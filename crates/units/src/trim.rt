@@ -37,17 +37,13 @@ impl<U: Unit> Unit for Trim<U> {
 
     const MAX_LATENESS: u8 = U::MAX_LATENESS;
 
-    ghost most = { U.Unit.most };
+    ghost MAX_LATENESS = { U.MAX_LATENESS };
 
     ghost meaning = { trim_meaning U.Unit.meaning };
 
     ghost lawful = { λ u. trim_lawful u.settings.gain (U.Unit.meaning u.unit) (U.Unit.lawful u.unit) };
 
     ghost within = { λ u. U.Unit.within u.unit };
-
-    fn greatest_lateness() -> u8 {
-        U::greatest_lateness()
-    }
 
     fn lateness(&self) -> u8 {
         self.unit.lateness()

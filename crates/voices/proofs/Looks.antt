@@ -48,9 +48,6 @@ pub greatest_push : {X : Type 0} (f : X → ℕ) (xs : List X) (y : X) → great
 greatest_push f [] y = refl
 greatest_push f (x ∷ xs) y = let h = greatest_push f xs y in omega arith
 
-pub greatest_counting_more : (f : ℕ → ℕ) (n : ℕ) → greatest f (range_with_len 0 (n + 1)) ≡ max (f n) (greatest f (range_with_len 0 n))
-greatest_counting_more f n = ap (greatest f) (counting_more n) ∙ greatest_push f (range_with_len 0 n) n
-
 pub delay_looks : (frames : ℕ) → frames ≤ 63 → Looks 63 (delay_rule frames)
 delay_looks frames h p q agree = agree frames h
 

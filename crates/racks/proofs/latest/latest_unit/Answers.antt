@@ -1,26 +1,16 @@
-use Rattle.std.proofs.Common.{ℕ, ◌<◌, max, length, take, sym, ap, ◌∙◌, ap₂, arith}
-use Rattle.frames.specs.declared.samples.Frame.{Frame}
+use borrow.Author.Tests.{tests}
+use Rattle.std.proofs.Common.{rules, max, refl, ◌∙◌, arith}
+use Rattle.std.proofs.lemmas.Iterator.{YieldsList-from_range}
+use Rattle.std.proofs.lemmas.Iterator.Consumers.{fold_from_yields_List}
+use Rattle.std.specs.List.{range_with_len}
 use Rattle.racks.proofs.latest.latest_unit.Goals as goal
-use Rattle.racks.specs.Rack.{no_unit, unit}
-use Rattle.std.proofs.lemmas.List.{take_all, take_more}
-use Rattle.voices.proofs.Looks.{greatest_push}
-use Rattle.voices.specs.Kinds.{greatest}
-use Rattle.voices.specs.Meaning.{Meaning}
-
-late : Meaning Frame → ℕ
-late m = m.late
-
-pub loop-s-preserved : goal.loop-s-preserved
-unfolding late
-loop-s-preserved g c =
-    let units = g.R.Rack.units c.args.rack.now in
-    let s = c.loop-s.s in
-    let inside : s < length units = omega arith in
-    c.later-latest.ensures ∙ ap₂ max c.lateness.ensures c.loop-s.invariant
-    ∙ sym (ap (greatest late) (take_more units s no_unit inside) ∙ greatest_push late (take s units) (unit units s))
+use Rattle.racks.proofs.Numbered.{greatest_numbered}
+use Rattle.racks.specs.Rack.{unit}
+use Rattle.units.proofs.Peaks.{greatest_folds}
 
 pub returns : goal.returns
-unfolding late
 returns g c =
     let units = g.R.Rack.units c.args.rack.now in
-    c.loop-s.invariant ∙ ap (greatest late) (take_all c.loop-s.s units (omega arith))
+    fold_from_yields_List _ (λ latest s. max (unit units s).late latest) 0 _ c.fold.ensures.ran (YieldsList-from_range 0 c.count.result c.count.result refl (omega arith)) (λ latest s n q k. search (rules, tests))
+    ∙ greatest_folds (λ s. (unit units s).late) (range_with_len 0 c.count.result)
+    ∙ greatest_numbered units c.count.result c.count.ensures

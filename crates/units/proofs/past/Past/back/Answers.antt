@@ -1,9 +1,8 @@
-use Rattle.std.proofs.Common.{sym, arith}
-use Rattle.units.proofs.Rings.{heard_beyond, heard_within}
+use Rattle.std.proofs.Common.{◌+◌, ◌%◌, get_or, sym, ap, ◌∙◌}
+use Rattle.frames.specs.Samples.{silence}
+use Rattle.units.proofs.Rings.{heard_within}
 use Rattle.units.proofs.past.Past.back.Goals as goal
 
-pub returns-then-k-lt64 : goal.returns-then-k-lt64
-returns-then-k-lt64 c = sym (heard_within c.args.self.now c.args.k (omega arith))
-
-pub returns-else-k-lt64 : goal.returns-else-k-lt64
-returns-else-k-lt64 c = sym (heard_beyond c.args.self.now c.args.k (omega arith))
+pub returns : goal.returns
+returns c =
+    ap (λ at. get_or c.args.self.now.frames ((at + c.args.k) % 64) silence) c.from.ensures ∙ sym (heard_within c.args.self.now c.args.k c.requires)
