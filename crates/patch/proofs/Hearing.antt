@@ -1,6 +1,6 @@
 -- What a node has heard, and what it has yet to hear.
 use Rattle.std.proofs.Common.{◌≡◌, ℕ, ◌-◌, ◌<◌, List, [], map, length, get_or, Some, None, Option, sym, refl, ap, ◌∙◌, subst, arith}
-use Rattle.patch.proofs.Joining.{collected, collected_from, from_none, joined_in_all, joined_to, or_start}
+use Rattle.patch.proofs.Joining.{collected, collected_from, from_none, joined_in_all, joined_to}
 use Rattle.patch.proofs.Linking.{Rising, links_end, links_on}
 use Rattle.patch.specs.Inputs.{Arranges, Links, first_into, next_after}
 use Rattle.patch.specs.Placing.{plan_of}
@@ -10,6 +10,7 @@ use Rattle.session.specs.Plan.{line, lines_into}
 use Rattle.session.specs.declared.nodes.Line.{Line}
 use Rattle.signals.proofs.Lines.{all_lines}
 use Rattle.std.specs.List.{AllByRecursion}
+use Rattle.std.specs.Option.{unwrap_or}
 
 -- The value at line i's start.
 abbrev pub value_at : {X : Type 0} → Kind X → List Line → List X → ℕ → X
@@ -70,9 +71,9 @@ module _ {X : Type 0} (kind : Kind X) (lines : List Line) (inputs : Inputs) (val
       )
 
   pub hears_all : (heard : Option X) → Hearing kind lines inputs values v heard None
-      → or_start kind.start heard ≡ joined kind (map (value_at kind lines values) (lines_into (plan_of [] lines) v))
+      → unwrap_or heard kind.start ≡ joined kind (map (value_at kind lines values) (lines_into (plan_of [] lines) v))
   hears_all heard h =
       let (rest, links, all, same) = h.1 in
       let none = links_end (next_after inputs) rest links in
-      ap (or_start kind.start) (ap (λ is. collected_from kind.join heard (map (value_at kind lines values) is)) (sym none) ∙ same)
+      ap (λ o. unwrap_or o kind.start) (ap (λ is. collected_from kind.join heard (map (value_at kind lines values) is)) (sym none) ∙ same)
       ∙ sym (joined_in_all kind (map (value_at kind lines values) (lines_into (plan_of [] lines) v)))

@@ -3,6 +3,7 @@ use Rattle.std.proofs.Common.{◌≡◌, ℕ, List, [], ◌∷◌, Some, None, O
 use Rattle.patch.specs.Sweeps.{Kind, joined, joined_on, swept}
 use Rattle.session.specs.Plan.{Plan, line, lines_into}
 use Rattle.signals.proofs.Lines.{EachInto, all_lines, map_same}
+use Rattle.std.specs.Option.{unwrap_or}
 
 -- Some values joined, if there are any.
 abbrev pub collected : {X : Type 0} → (X → X → X) → List X → Option X
@@ -14,11 +15,7 @@ joined_to join None y = y
 joined_to join (Some x) y = join x y
 
 -- What is joined in the end.
-abbrev pub or_start : {X : Type 0} → X → Option X → X
-or_start first None = first
-or_start first (Some x) = x
-
-pub joined_in_all : {X : Type 0} (kind : Kind X) (xs : List X) → joined kind xs ≡ or_start kind.start (collected kind.join xs)
+pub joined_in_all : {X : Type 0} (kind : Kind X) (xs : List X) → joined kind xs ≡ unwrap_or (collected kind.join xs) kind.start
 joined_in_all kind [] = refl
 joined_in_all kind (x ∷ xs) = refl
 

@@ -23,7 +23,7 @@ pub(crate) fn arrange(lines: &[Line]) -> Inputs
     let mut first = [None; 16];
     let mut next = [None; 48];
     for i in (0..lines.len()).rev() {
-        let end = lines[i].end as usize;
+        let end = usize::from(lines[i].end);
         next[i] = first[end];
         first[end] = Some(i as u8);
     }

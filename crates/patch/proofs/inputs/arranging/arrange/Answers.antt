@@ -1,5 +1,5 @@
-use Rattle.std.proofs.Common.{◌≡◌, ◌+◌, ◌-◌, ◌<◌, [], length, get_or, Some, None, refl, ◌∙◌, subst, arith}
-use Rattle.patch.proofs.Linking.{Linked, all_linked, links_more, none_linked, none_rises, rises_on}
+use Rattle.std.proofs.Common.{◌≡◌, ◌+◌, ◌-◌, ◌<◌, [], length, get_or, set, Some, None, sym, refl, ◌∙◌, subst, arith}
+use Rattle.patch.proofs.Linking.{Linked, Rising, all_linked, links_more, none_linked, none_rises, rises_on}
 use Rattle.patch.proofs.inputs.arranging.arrange.Goals as goal
 use Rattle.patch.specs.Placing.{plan_of}
 use Rattle.session.specs.Plan.{line}
@@ -18,7 +18,10 @@ loop-i-preserved c =
     let inv = c.loop-i.invariant in
     let inside : i < length lines = omega arith in
     let before : c.loop-i.i ≡ i + 1 = omega arith in
-    let linked = subst (Linked lines first next) before inv.2 in (
+    let linked = subst (Linked lines first next) before inv.2 in
+    subst (λ end. (length (set first end (Some i)) ≡ 16) × (length (set next i (get_or first end None)) ≡ 48)
+    × Linked lines (set first end (Some i)) (set next i (get_or first end None)) i × Rising (set next i (get_or first end None)))
+    (sym c.from-end.ensures) (
       length-set first end (Some i) ∙ inv.0,
       length-set next i (get_or first end None) ∙ inv.1,
       links_more lines c.requires first next i inside inv.0 inv.1 linked,
