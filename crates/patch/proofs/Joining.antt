@@ -3,7 +3,6 @@ use Rattle.std.proofs.Common.{◌≡◌, ℕ, List, [], ◌∷◌, Some, None, O
 use Rattle.patch.specs.Sweeps.{Kind, joined, joined_on, swept}
 use Rattle.session.specs.Plan.{Plan, line, lines_into}
 use Rattle.signals.proofs.Lines.{EachInto, all_lines, map_same}
-use Rattle.std.specs.Option.{unwrap_or}
 
 -- Some values joined, if there are any.
 abbrev pub collected : {X : Type 0} → (X → X → X) → List X → Option X
@@ -13,11 +12,6 @@ collected join (x ∷ xs) = Some (joined_on join x xs)
 abbrev pub joined_to : {X : Type 0} → (X → X → X) → Option X → X → X
 joined_to join None y = y
 joined_to join (Some x) y = join x y
-
--- What is joined in the end.
-pub joined_in_all : {X : Type 0} (kind : Kind X) (xs : List X) → joined kind xs ≡ unwrap_or (collected kind.join xs) kind.start
-joined_in_all kind [] = refl
-joined_in_all kind (x ∷ xs) = refl
 
 -- A node hears the same from starts that have the same values.
 pub swept_same : {X : Type 0} (kind : Kind X) (p : Plan) (a b : ℕ → X) (v : ℕ)

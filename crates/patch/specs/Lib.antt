@@ -11,4 +11,5 @@ pub mod Patches
 pub mod Placing
 pub mod Props
 pub mod Sweeps
+pub mod Walks
 pub mod Wirings

@@ -1,5 +1,5 @@
 -- What a wiring keeps has one proof at most.
-use Rattle.std.specs.Prelude.{◌≡◌, ℕ, List, [], ◌∷◌, Some, None, Option}
+use Rattle.std.specs.Prelude.{ℕ, List, [], ◌∷◌, Some, None, Option}
 use Rattle.std.specs.Coded.{Coded-set, coded_bool, coded_option, coded_ℕ, le_prop, Π_prop}
 use Rattle.patch.specs.Inputs.{Arranges, Links}
 use Rattle.patch.specs.declared.inputs.Inputs.{Inputs}

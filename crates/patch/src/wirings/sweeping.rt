@@ -13,12 +13,10 @@ impl Wiring<'_> {
         ensures { result ≡ joined (F.Flow.kind kind.now) (map (λ i. by_node (F.Flow.kind kind.now) values.now (line (wired self.now) i).start) (lines_into (wired self.now) v)) }
     {
         let mut heard = None;
-        let mut at = self.inputs.first_into(usize::from(v));
-        while let Some(i) = at {
+        for i in self.inputs.lines_into(usize::from(v)) {
             let start = usize::from(self.lines[usize::from(i)].start);
             let value = values[start];
             heard = Some(heard.map_or(value, |before| kind.join(before, value)));
-            at = self.inputs.next_after(usize::from(i));
         }
         heard.unwrap_or(kind.start())
     }

@@ -1,4 +1,4 @@
-use Rattle.std.proofs.Common.{◌≡◌, ◌-◌, ◌<◌, true, [], length, sym, ap, ◌∙◌, subst, arith}
+use Rattle.std.proofs.Common.{◌≡◌, ◌-◌, true, [], length, sym, ap, ◌∙◌, subst, arith}
 use Rattle.patch.proofs.Following.{follows, next_none, next_some}
 use Rattle.patch.proofs.Growing.{grows_on, stays}
 use Rattle.patch.proofs.Placed.{Sound, room, sound_none, sound_push}
