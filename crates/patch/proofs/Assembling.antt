@@ -23,16 +23,14 @@ use Rattle.signals.proofs.Agreement.{aligned_is_ideal}
 use Rattle.signals.proofs.Latenesses.{delays_stay_short, ours_is_aligned, ours_is_least}
 use Rattle.signals.specs.Patches.{Aligned, Ordered, OurLatenesses, latest_start, our_delay, unit_late}
 use Rattle.std.proofs.lemmas.List.{get_or-take, length-take-le}
+use Rattle.std.proofs.lemmas.Option.{none-some}
 use Rattle.std.proofs.lemmas.Bool.{eqb-false, not-false}
 use Rattle.voices.specs.Meaning.{Meaning}
 
-not_both : {A P : Type 0} (x : A) → Some x ≡ None → P
-not_both x e = let z : ◌≡◌ {A = ℕ} 0 1 = cc in absurd (omega arith)
-
 clear_parts : (b : Bool) (l u : Option ℕ) → first_due b l u ≡ None → (b ≡ false) × (u ≡ None)
-clear_parts true l u e = not_both _ e
-clear_parts false (Some v) u e = not_both _ e
-clear_parts false None (Some v) e = not_both _ e
+clear_parts true l u e = absurd (none-some _ (sym e))
+clear_parts false (Some v) u e = absurd (none-some _ (sym e))
+clear_parts false None (Some v) e = absurd (none-some _ (sym e))
 clear_parts false None None e = (refl, refl)
 
 module _ (p : Plan) (rack : List (Meaning Frame)) (clear : due p rack ≡ None) where

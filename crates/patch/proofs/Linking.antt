@@ -8,11 +8,9 @@ use Rattle.session.specs.Plan.{Plan, line}
 use Rattle.session.specs.declared.nodes.Line.{Line}
 use Rattle.std.proofs.ByRecursion.{All-weaker}
 use Rattle.std.proofs.lemmas.List.{get_or_past, get_or-replicate, get_or-set_other, get_or-set_same}
+use Rattle.std.proofs.lemmas.Option.{none-some}
 use Rattle.std.proofs.lemmas.Bool.{cases_eq, cases_lt, cond_both, eqb-false, eqb-true}
 use Rattle.std.specs.List.{range_with_len, AllByRecursion}
-
-absurd_some : {A P : Type 0} (x : A) → Some x ≡ None → P
-absurd_some x e = let z : ◌≡◌ {A = ℕ} 0 1 = cc in absurd (omega arith)
 
 same_some : (i j : ℕ) → Some i ≡ Some j → i ≡ j
 same_some i j e = cc
@@ -20,14 +18,14 @@ same_some i j e = cc
 -- Where a number stands, the linked numbers begin with it, and the others are linked from the next on.
 pub links_on : (next : ℕ → Option ℕ) (P : ℕ → Type 0) (i : ℕ) (is : List ℕ) → Links next (Some i) is → AllByRecursion P is
     → (js : List ℕ) × (is ≡ i ∷ js) × Links next (next i) js × P i × AllByRecursion P js
-links_on next P i [] h all = absurd_some i h
+links_on next P i [] h all = absurd (none-some i (sym h))
 links_on next P i (j ∷ js) h all =
     let e = same_some i j h.0 in
     (js, ap (λ k. k ∷ js) (sym e), subst (λ k. Links next (next k) js) (sym e) h.1, subst P (sym e) all.0, all.1)
 
 pub links_end : (next : ℕ → Option ℕ) (is : List ℕ) → Links next None is → is ≡ []
 links_end next [] h = refl
-links_end next (j ∷ js) h = absurd_some j (sym h.0)
+links_end next (j ∷ js) h = absurd (none-some j h.0)
 
 abbrev pub at_number : List (Option ℕ) → ℕ → Option ℕ
 at_number next i = get_or next i None
@@ -123,8 +121,8 @@ none_linked lines v b =
 pub none_rises : Rises (replicate 48 None)
 none_rises i j e =
     elim (cases_lt i 48) [
-      | inl l ↦ absurd_some j (sym e ∙ get_or-replicate 48 i None None l)
-      | inr l ↦ absurd_some j (sym e ∙ get_or_past (replicate 48 None) i None l)
+      | inl l ↦ absurd (none-some j (sym (get_or-replicate 48 i None None l) ∙ e))
+      | inr l ↦ absurd (none-some j (sym (get_or_past (replicate 48 None) i None l) ∙ e))
     ]
 
 -- At last all lines are.

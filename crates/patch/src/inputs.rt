@@ -5,6 +5,7 @@ pub mod views;
 pub mod walking;
 
 // Lines by their ends: each node's first line in, and after each line the next one into the same node, a later one.
+// They are lists by index, since making a patch takes no memory that could run out.
 #[derive(Drop)]
 pub struct Inputs {
     pub(crate) first: [Option<u8>; 16],

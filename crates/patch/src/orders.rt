@@ -6,6 +6,7 @@ use arrayvec::ArrayVec;
 pub mod views;
 
 // Nodes in the order in which they were placed, at most 16, and which of them are placed.
+// Placing asks for each line whether its start is placed, and `placed` spares it a search of `nodes`.
 #[derive(Drop)]
 pub struct Order {
     nodes: ArrayVec<u8, 16>,

@@ -9,6 +9,7 @@ pub mod ours;
 pub mod views;
 
 // The patch of a session: at most 16 nodes and 48 lines.
+// `late` and `fed` are by node and filled in the order of placing, so they are arrays; as many count as the order has nodes.
 #[derive(Drop)]
 pub struct Patch {
     order: Order,

@@ -15,6 +15,7 @@ pub trait Flow {
     fn join(&self, a: Self::Value, b: Self::Value) -> Self::Value
         ensures { result ≡ (kind self.now).join a b };
 
+    // A set of nodes has 16 bits.
     fn step(&self, v: u8, x: Self::Value) -> Self::Value
         requires { v < 16 }
         ensures { result ≡ (kind self.now).step v x };

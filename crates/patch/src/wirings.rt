@@ -9,7 +9,7 @@ use session::nodes::{Line, Node};
 
 mod holding;
 mod making;
-mod placing;
+pub(crate) mod placing;
 mod sweeping;
 
 // The nodes and lines of a session with a node, and the lines by their ends.

@@ -11,13 +11,15 @@ use crate::flows::{Feeders, Latenesses};
 use crate::orders::Order;
 use crate::patches::Patch;
 use crate::wirings::Wiring;
+use crate::wirings::placing::lacking_unit;
 use racks::interface::Rack;
 
 // The order of the nodes over a rack of so many units, or the first refusal that is due.
+#[tactic(auto, using(crate::proofs::Finding::lacking_is_lowest))]
 pub(crate) fn order_of(wiring: &Wiring, count: u8) -> Result<Order, PatchFault>
     ensures { MatchResult result (λ order. (due_with_nodes (wired wiring.now) count ≡ None) × (listed order ≡ order_of (wired wiring.now))) (λ fault. due_with_nodes (wired wiring.now) count ≡ Some fault) }
 {
-    if let Some(v) = wiring.lacking_unit(count) {
+    if let Some(v) = lacking_unit(wiring.nodes, count) {
         return Err(PatchFault::NoUnit(v));
     }
     let order = wiring.place();

@@ -18,10 +18,9 @@ impl Wiring<'_> {
     fn lateness_at<R: Rack>(&self, rack: &R, v: usize) -> u8
         ensures { result ≡ unit_late (R.Rack.units rack.now) (node (wired self.now) v).unit }
     {
-        match self.nodes.get(v) {
-            Some(node) => unit_lateness(node.unit, rack),
-            None => 0,
-        }
+        self.nodes
+            .get(v)
+            .map_or(0, |node| unit_lateness(node.unit, rack))
     }
 
     // How late each node's unit is; 0 without one.

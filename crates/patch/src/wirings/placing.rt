@@ -1,5 +1,5 @@
 ghost use Rattle.std.specs.Prelude.{◌≡◌, ℕ, ◌<◌, length, position, MatchOption};
-ghost use Rattle.patch.specs.Due.{lacks, lowest_lacking};
+ghost use Rattle.patch.specs.Due.{lacks};
 ghost use Rattle.patch.specs.Orders.{listed};
 ghost use Rattle.patch.specs.Placing.{Follows, order_of};
 ghost use Rattle.patch.specs.Wirings.{wired};
@@ -14,20 +14,14 @@ fn unit_lacks(unit: Option<u8>, count: u8) -> bool
     unit.is_some_and(|unit| count <= unit)
 }
 
-fn first_lacking(nodes: &[Node], count: u8) -> Option<usize>
+// The lowest node whose unit a rack of so many units lacks.
+pub(crate) fn lacking_unit(nodes: &[Node], count: u8) -> Option<usize>
     ensures { result ≡ position (λ node. lacks count node.unit) nodes.now }
 {
     nodes.iter().position(|node| unit_lacks(node.unit, count))
 }
 
 impl Wiring<'_> {
-    // The lowest node whose unit a rack of so many units lacks.
-    pub(crate) fn lacking_unit(&self, count: u8) -> Option<usize>
-        ensures { result ≡ lowest_lacking (wired self.now) count }
-    {
-        first_lacking(self.nodes, count)
-    }
-
     // The lowest node that can follow those of an order.
     fn next_node(&self, order: &Order) -> Option<u8>
         ensures { MatchOption result ((w : ℕ) → w < length self.now.nodes.now → Follows (wired self.now) (listed order.now) w → ⊥) (λ v. (v < length self.now.nodes.now) × Follows (wired self.now) (listed order.now) v × ((w : ℕ) → w < v → Follows (wired self.now) (listed order.now) w → ⊥)) }
