@@ -1,19 +1,8 @@
-ghost use Rattle.std.specs.Prelude.{[]};
 ghost use Rattle.patch.specs.Inputs.{Arranges};
 ghost use Rattle.patch.specs.Sweeps.{Fit};
 
 use crate::inputs::Inputs;
 use session::nodes::Line;
-
-// No line into any node.
-pub(crate) fn no_inputs() -> Inputs
-    ensures { Arranges [] result }
-{
-    Inputs {
-        first: [None; 16],
-        next: [None; 48],
-    }
-}
 
 // Arranges lines by their ends, from the last to the first.
 pub(crate) fn arrange(lines: &[Line]) -> Inputs

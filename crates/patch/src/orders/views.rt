@@ -5,6 +5,7 @@ ghost use Rattle.patch.specs.Placing.{lowest, stands};
 use crate::orders::Order;
 use arrayvec::ArrayVec;
 
+// The first place that is not taken.
 fn first_free(placed: &[bool]) -> Option<usize>
     ensures { result ≡ position not placed.now }
 {

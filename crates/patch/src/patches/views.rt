@@ -5,7 +5,7 @@ ghost use Rattle.patch.specs.declared.faults.PatchFault.TheVariants.{NotDeclared
 
 use crate::faults::PatchFault;
 use crate::inputs::Inputs;
-use crate::inputs::arranging::no_inputs;
+use crate::inputs::arranging::arrange;
 use crate::orders::Order;
 use crate::patches::Patch;
 use arrayvec::ArrayVec;
@@ -22,7 +22,7 @@ impl Patch {
             late: [0; 16],
             fed: [0; 16],
             held: ArrayVec::new(),
-            inputs: no_inputs(),
+            inputs: arrange(&[]),
         }
     }
 

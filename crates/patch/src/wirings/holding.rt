@@ -7,20 +7,13 @@ use crate::wirings::Wiring;
 use arrayvec::ArrayVec;
 use racks::interface::Rack;
 
-fn unit_lateness<R: Rack>(unit: Option<u8>, rack: &R) -> u8
-    ensures { result ≡ unit_late (R.Rack.units rack.now) unit }
-{
-    unit.map_or(0, |unit| rack.lateness(unit))
-}
-
 impl Wiring<'_> {
     // How late node `v`'s unit is; 0 without one.
     fn lateness_at<R: Rack>(&self, rack: &R, v: usize) -> u8
         ensures { result ≡ unit_late (R.Rack.units rack.now) (node (wired self.now) v).unit }
     {
-        self.nodes
-            .get(v)
-            .map_or(0, |node| unit_lateness(node.unit, rack))
+        let unit = self.nodes.get(v).and_then(|node| node.unit);
+        unit.map_or(0, |unit| rack.lateness(unit))
     }
 
     // How late each node's unit is; 0 without one.
