@@ -23,16 +23,14 @@ use Rattle.signals.proofs.Agreement.{aligned_is_ideal}
 use Rattle.signals.proofs.Latenesses.{delays_stay_short, ours_is_aligned, ours_is_least}
 use Rattle.signals.specs.Patches.{Aligned, Ordered, OurLatenesses, latest_start, our_delay, unit_late}
 use Rattle.std.proofs.lemmas.List.{get_or-take, length-take-le}
+use Rattle.std.proofs.lemmas.Option.{none-some}
 use Rattle.std.proofs.lemmas.Bool.{eqb-false, not-false}
 use Rattle.voices.specs.Meaning.{Meaning}
 
-not_both : {A P : Type 0} (x : A) → Some x ≡ None → P
-not_both x e = let z : ◌≡◌ {A = ℕ} 0 1 = cc in absurd (omega arith)
-
 clear_parts : (b : Bool) (l u : Option ℕ) → first_due b l u ≡ None → (b ≡ false) × (u ≡ None)
-clear_parts true l u e = not_both _ e
-clear_parts false (Some v) u e = not_both _ e
-clear_parts false None (Some v) e = not_both _ e
+clear_parts true l u e = absurd (none-some _ (sym e))
+clear_parts false (Some v) u e = absurd (none-some _ (sym e))
+clear_parts false None (Some v) e = absurd (none-some _ (sym e))
 clear_parts false None None e = (refl, refl)
 
 module _ (p : Plan) (rack : List (Meaning Frame)) (clear : due p rack ≡ None) where
@@ -62,13 +60,13 @@ sweep_of_plan kind p rules placed order is values along v l =
     (λ i b e. sym (get_or-take (length order) values (line p i).start kind.start (omega (arith, rules.starts i b)))))
 
 module _ (p : Plan) (rack : List (Meaning Frame)) (r : Patch) (units : List ℕ) (rules : KeepsRules p) (laws : RackLaws rack)
-    (clear : due p rack ≡ None) (in_order : ordered_nodes r ≡ order_of p) (lines_are : r.lines ≡ length p.lines)
+    (clear : due p rack ≡ None) (in_order : ordered_nodes r ≡ order_of p) (lines_are : length r.held.items ≡ length p.lines)
     (arranged : Arranges p.lines r.inputs)
     (each : (v : ℕ) → v < length p.nodes → get_or units v 0 ≡ unit_late rack (node p v).unit)
     (late-along : SweptTo (lateness_kind units) p.lines (ordered_nodes r) (length (ordered_nodes r)) (by_node (lateness_kind units) r.late))
     (fed_along : SweptTo feeders_kind p.lines (ordered_nodes r) (length (ordered_nodes r)) (by_node feeders_kind r.fed))
     (held-are : (i : ℕ) → i < length p.lines
-    → get_or r.held i 0 ≡ (get_or r.late (line p i).end 0 - get_or units (line p i).end 0) - get_or r.late (line p i).start 0) where
+    → get_or r.held.items i 0 ≡ (get_or r.late (line p i).end 0 - get_or units (line p i).end 0) - get_or r.late (line p i).start 0) where
   placed : Placed p
   placed = all_placed p rack clear
 
@@ -90,7 +88,6 @@ module _ (p : Plan) (rack : List (Meaning Frame)) (r : Patch) (units : List ℕ)
   held_is i b =
       omega (
         arith,
-        get_or-take r.lines r.held i 0 (omega (arith, lines_are)),
         held-are i b,
         late_at (line p i).end (rules.ends i b),
         late_at (line p i).start (rules.starts i b),
@@ -110,7 +107,7 @@ module _ (p : Plan) (rack : List (Meaning Frame)) (r : Patch) (units : List ℕ)
     ordered = ordered;
     each_late = length-take-le (length (ordered_nodes r)) r.late (omega (arith, count, rules.few_nodes, r.full.0)) ∙ count;
     each_fed = length-take-le (length (ordered_nodes r)) r.fed (omega (arith, count, rules.few_nodes, r.full.1)) ∙ count;
-    each_held = length-take-le r.lines r.held (omega (arith, r.full.2, r.full.3)) ∙ lines_are;
+    each_held = lines_are;
     arranged = arranged;
     late = late_is;
     held = held_is;

@@ -1,8 +1,15 @@
 -- The first number that passes a test.
-use Rattle.std.proofs.Common.{◌≡◌, ℕ, zero, suc, ◌+◌, ◌<◌, ◌≤◌, Bool, true, false, Some, None, Option, sym, refl, ap, ◌∙◌, inl, inr, arith}
-use Rattle.patch.specs.Placing.{first_of, lowest}
+use Rattle.std.proofs.Common.{◌≡◌, ℕ, zero, suc, ◌+◌, ◌<◌, ◌≤◌, Bool, true, false, cond, List, [], ◌∷◌, length, get_or, Some, None, Option, sym, refl, ap, ap₂, ◌∙◌, inl, inr, arith}
+use Rattle.patch.specs.Due.{lacks, lowest_lacking}
+use Rattle.patch.specs.Placing.{first_of, lowest, plan_of}
+use Rattle.session.specs.Plan.{node}
+use Rattle.session.specs.declared.nodes.Line.{Line}
+use Rattle.session.specs.declared.nodes.Node.{Node}
+use Rattle.session.specs.declared.nodes.Source.TheVariants.{Bus}
+use Rattle.std.proofs.lemmas.Option.{none-some}
 use Rattle.std.proofs.lemmas.Bool.{cases_eq, cond_both, cond-false, cond-true}
-use Rattle.std.specs.List.{range_with_len}
+use Rattle.std.proofs.lemmas.Iterator.Adapters.{position_from-zero}
+use Rattle.std.specs.List.{position, position_from, range_with_len}
 
 first_none : (test : ℕ → Bool) (a n : ℕ) → ((w : ℕ) → w < a + n → test w ≡ false) → first_of test (range_with_len a n) ≡ None
 first_none test a zero h = refl
@@ -25,6 +32,23 @@ lowest_none test n h = first_none test 0 n (λ w l. h w (omega arith))
 
 pub lowest_some : (test : ℕ → Bool) (n v : ℕ) → v < n → test v ≡ true → ((w : ℕ) → w < v → test w ≡ false) → lowest test n ≡ Some v
 lowest_some test n v b t h = first_some test 0 n v (omega arith) (omega arith) t h
+
+-- The position of the first item that passes is the lowest number whose item does.
+from_position : {X : Type 0} (test : X → Bool) (d : X) (f : ℕ → Bool) (xs : List X) (i : ℕ)
+    → ((v : ℕ) → v < length xs → test (get_or xs v d) ≡ f (i + v)) → position_from test i xs ≡ first_of f (range_with_len i (length xs))
+from_position test d f [] i same = refl
+from_position test d f (x ∷ xs) i same =
+    ap₂ (λ b o. cond b (Some i) o) (same 0 (omega arith) ∙ ap f (omega arith))
+    (from_position test d f xs (i + 1) (λ v l. same (suc v) (omega arith) ∙ ap f (omega arith)))
+
+pub position_is_lowest : {X : Type 0} (test : X → Bool) (d : X) (f : ℕ → Bool) (xs : List X)
+    → ((v : ℕ) → v < length xs → test (get_or xs v d) ≡ f v) → position test xs ≡ lowest f (length xs)
+position_is_lowest test d f xs same = position_from-zero test xs ∙ from_position test d f xs 0 (λ v l. same v l ∙ ap f (omega arith))
+
+pub lacking_is_lowest : (nodes : List Node) (lines : List Line) (count : ℕ)
+    → position (λ n. lacks count n.unit) nodes ≡ lowest_lacking (plan_of nodes lines) count
+lacking_is_lowest nodes lines count =
+    position_is_lowest (λ n. lacks count n.unit) (record { source = Bus; unit = None }) (λ v. lacks count (node (plan_of nodes lines) v).unit) nodes (λ v l. refl)
 
 -- What a lowest number tells.
 data Tells (test : ℕ → Bool) (a b : ℕ) : Option ℕ → Type 0 where
@@ -54,18 +78,6 @@ by_lowest test n P without found = go (first_tells test 0 n n (omega arith))
     go (none h) = without (λ w l. h w (omega arith) l)
     go (some {v} l m t h) = found v m t (λ w j. h w (omega arith) j)
 
-pub lowest_inside : (test : ℕ → Bool) (n v : ℕ) → lowest test n ≡ Some v → (v < n) × (test v ≡ true) × ((w : ℕ) → w < v → test w ≡ false)
-lowest_inside test n v =
-    by_lowest test n (λ o. o ≡ Some v → (v < n) × (test v ≡ true) × ((w : ℕ) → w < v → test w ≡ false))
-    (λ _ e. absurd (none_some e))
-    (λ u b t h e. let same : u ≡ v = cc in (omega arith, ap test (sym same) ∙ t, λ w l. h w (omega arith)))
-  where
-    none_some : None ≡ Some v → ⊥
-    none_some e = let z : ◌≡◌ {A = ℕ} 0 1 = cc in omega arith
-
 pub none_passes : (test : ℕ → Bool) (n : ℕ) → lowest test n ≡ None → (w : ℕ) → w < n → test w ≡ false
 none_passes test n =
-    by_lowest test n (λ o. o ≡ None → (w : ℕ) → w < n → test w ≡ false) (λ h _. h) (λ u b t h e. absurd (some_none u e))
-  where
-    some_none : (u : ℕ) → Some u ≡ None → ⊥
-    some_none u e = let z : ◌≡◌ {A = ℕ} 0 1 = cc in omega arith
+    by_lowest test n (λ o. o ≡ None → (w : ℕ) → w < n → test w ≡ false) (λ h _. h) (λ u b t h e. absurd (none-some u (sym e)))

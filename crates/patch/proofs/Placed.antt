@@ -1,5 +1,5 @@
 -- What holds of the order in which nodes are placed.
-use Rattle.std.proofs.Common.{◌≡◌, ℕ, zero, suc, ◌+◌, ◌<◌, ◌≤◌, true, false, List, [], ◌∷◌, ◌++◌, length, get_or, take, Some, None, sym, refl, ap, ◌∙◌, subst, inl, inr, add-one, arith}
+use Rattle.std.proofs.Common.{◌≡◌, ℕ, zero, suc, ◌+◌, ◌<◌, ◌≤◌, true, false, List, [], ◌∷◌, ◌++◌, length, get_or, take, Some, sym, refl, ap, ◌∙◌, subst, inl, inr, add-one, arith}
 use Rattle.patch.proofs.Finding.{by_lowest, lowest_none, lowest_some}
 use Rattle.patch.proofs.Following.{follows, follows_parts, not_again}
 use Rattle.patch.proofs.Growing.{grown_by, grown_next}
@@ -9,6 +9,7 @@ use Rattle.patch.specs.Sweeps.{Along}
 use Rattle.session.specs.Plan.{KeepsRules, Plan, line}
 use Rattle.signals.proofs.Order.{from_starts}
 use Rattle.std.proofs.lemmas.List.{get_or_append_left, get_or_push, length_push, take_all, take-append-le, take_at, take_more_same}
+use Rattle.std.proofs.lemmas.Option.{none-some}
 use Rattle.std.proofs.lemmas.Bool.{both_ways, cases_Bool, cases_eq, false≢true}
 
 -- Every node of an order is declared, stands once, and comes after the starts of its lines in.
@@ -19,7 +20,7 @@ pub record Sound (p : Plan) (order : List ℕ) : Type 0 where
   pub once : (k : ℕ) → k < length order → place_in order (get_or order k 0) ≡ k
   pub counted : standing order (length p.nodes) ≡ length order
 
-sound_none : (p : Plan) → Sound p []
+pub sound_none : (p : Plan) → Sound p []
 sound_none p = record {
   declared = λ v h. absurd (false≢true h);
   before = λ i b h. absurd (false≢true h);
@@ -66,13 +67,17 @@ module _ (p : Plan) (order : List ℕ) (v : ℕ) (s : Sound p order) (inside : v
             ∙ (place_old order v (get_or order k 0) (inside_stands order (get_or order k 0) (omega (arith, s.once k b))) ∙ s.once k b)
       ]
 
-  sound_push : Sound p (order ++ v ∷ [])
+  pub sound_push : Sound p (order ++ v ∷ [])
   sound_push = record {
     declared = push_declared;
     before = push_before;
     once = push_once;
     counted = omega (arith, standing_push order v (length p.nodes) inside new, length_push order v, s.counted);
   }
+
+  -- Where one more can follow, there is room for it.
+  pub room : length order < length p.nodes
+  room = omega (arith, sound_push.counted, length_push order v, standing_most (order ++ v ∷ []) (length p.nodes))
 
 module _ (p : Plan) where
   grown_sound : (m : ℕ) (order : List ℕ) → Sound p order → Sound p (grown p m order)
@@ -100,9 +105,6 @@ module _ (p : Plan) where
 
   pub few : length (order_of p) ≤ length p.nodes
   few = omega (arith, sound.counted, standing_most (order_of p) (length p.nodes))
-
-some_none : (v : ℕ) → Some v ≡ None → ⊥
-some_none v e = let z : ◌≡◌ {A = ℕ} 0 1 = cc in omega arith
 
 same_number : (v w : ℕ) → Some v ≡ Some w → v ≡ w
 same_number v w e = cc
@@ -145,7 +147,7 @@ module _ (p : Plan) (a b : List ℕ) (s : FollowsRule p a) (t : FollowsRule p b)
       elim (cases_eq k (length b)) [
         | inl e ↦
             let whole : take k a ≡ b = before.1 ∙ take_all k b (omega arith) in
-            absurd (some_none (get_or a k 0) (sym here ∙ (ap (λ xs. lowest (can_follow p xs) (length p.nodes)) whole ∙ t.none_left)))
+            absurd (none-some (get_or a k 0) (sym (ap (λ xs. lowest (can_follow p xs) (length p.nodes)) whole ∙ t.none_left) ∙ here))
         | inr ne ↦
             let there = t.each k (omega (arith, before.0)) in
             let same : get_or a k 0 ≡ get_or b k 0 =

@@ -1,23 +1,16 @@
 -- Which nodes stand in an order, and where.
 use Rattle.std.proofs.Common.{◌≡◌, ℕ, zero, suc, ◌+◌, ◌<◌, ◌≤◌, Bool, true, false, cond, ◌||◌, eqb, List, [], ◌∷◌, ◌++◌, length, get_or, sym, refl, ap, ◌∙◌, inl, inr, arith}
 use Rattle.patch.specs.Placing.{place_in, stands}
+use Rattle.std.proofs.Math.Bool.{or-false}
+use Rattle.std.proofs.lemmas.List.Recursion.{or_push}
 use Rattle.std.proofs.lemmas.Bool.{both_ways, cases_Bool, cases_eq, cond_both, cond-false, cond-true, eq-eqb, eqb-true, false≢true, ne_eqb, or_parts}
-
-or_none : (a : Bool) → (a || false) ≡ a
-or_none true = refl
-or_none false = refl
-
-or_three : (a b c : Bool) → (a || (b || c)) ≡ ((a || b) || c)
-or_three true b c = refl
-or_three false b c = refl
 
 or_second : (a b : Bool) → a ≡ false → (a || b) ≡ true → b ≡ true
 or_second true b f h = absurd (both_ways true f refl)
 or_second false b f h = h
 
 pub stands_push : (xs : List ℕ) (v w : ℕ) → stands (xs ++ v ∷ []) w ≡ (stands xs w || eqb v w)
-stands_push [] v w = or_none (eqb v w)
-stands_push (x ∷ xs) v w = ap (λ b. eqb x w || b) (stands_push xs v w) ∙ or_three (eqb x w) (stands xs w) (eqb v w)
+stands_push xs v w = or_push (λ xs. stands xs w) (λ x. eqb x w) refl (λ _ _. refl) xs v
 
 pub stands_new : (xs : List ℕ) (v : ℕ) → stands (xs ++ v ∷ []) v ≡ true
 stands_new xs v = stands_push xs v v ∙ (ap (λ b. stands xs v || b) (eq-eqb v v refl) ∙ last (stands xs v))
@@ -27,10 +20,7 @@ stands_new xs v = stands_push xs v v ∙ (ap (λ b. stands xs v || b) (eq-eqb v 
     last false = refl
 
 pub stands_other : (xs : List ℕ) (v w : ℕ) → (v ≡ w → ⊥) → stands (xs ++ v ∷ []) w ≡ stands xs w
-stands_other xs v w ne = stands_push xs v w ∙ (ap (λ b. stands xs w || b) (ne_eqb v w ne) ∙ or_none (stands xs w))
-
-pub stands_old : (xs : List ℕ) (v w : ℕ) → stands xs w ≡ true → stands (xs ++ v ∷ []) w ≡ true
-stands_old xs v w h = stands_push xs v w ∙ ap (λ b. b || eqb v w) h
+stands_other xs v w ne = stands_push xs v w ∙ (ap (λ b. stands xs w || b) (ne_eqb v w ne) ∙ or-false (stands xs w))
 
 -- Places.
 pub place_inside : (xs : List ℕ) (w : ℕ) → stands xs w ≡ true → place_in xs w < length xs
