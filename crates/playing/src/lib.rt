@@ -4,7 +4,6 @@
 ghost use Rattle.std.specs.Prelude.{◌≡◌, true};
 ghost use Rattle.playing.specs.Theorems.{PlaysThePatch};
 
-mod desks;
 mod proved;
 
 // Frame by frame, from rest and a silent tape, node 0's signal under the patch comes out.
