@@ -3,12 +3,16 @@ ghost use Rattle.console.specs.Plans.{no_line};
 ghost use Rattle.patch.specs.Inputs.{Arranges};
 ghost use Rattle.patch.specs.Patches.{delay_of, ordered_nodes};
 
+use frames::samples::Frame;
 use patch::patches::Patch;
 use session::nodes::{Line, Node};
 
 pub mod empty;
 pub mod making;
 pub mod works;
+
+// 1,024 frames behind each of 16 nodes.
+pub(crate) type Tape = [Frame; 16384];
 
 // A session's nodes and lines, how long each line is held, and the patch with the order of the nodes and the lines by
 // their ends.

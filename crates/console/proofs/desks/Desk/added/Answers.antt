@@ -11,10 +11,10 @@ loop-at-init c =
     let d = c.args.self.now in
     let new = c.new-sum.ensures in
     subst (Adding d _ c.args.v c.new-sum.result) (sym (c.first_into-at.ensures ∙ ap (first_into d.patch.inputs) c.from.ensures))
-    (adds_first d _ c.args.v c.new-sum.result c.requires.node (new.left, new.right, new.lines))
+    (adds_first d _ c.args.v c.new-sum.result c.requires (new.left, new.right, new.lines))
 
 pub part-requires : goal.part-requires
-part-requires c = record { line = is_line c.args.self.now _ c.args.v c.loop-at.sum c.loop-at.at c.in-Some.i c.in-Some.is c.loop-at.invariant; tape = c.requires.tape }
+part-requires c = is_line c.args.self.now _ c.args.v c.loop-at.sum c.loop-at.at c.in-Some.i c.in-Some.is c.loop-at.invariant
 
 pub loop-at-smaller : goal.loop-at-smaller
 loop-at-smaller c =

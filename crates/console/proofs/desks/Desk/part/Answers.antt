@@ -13,7 +13,7 @@ returns c =
     let d = c.args.self.now in
     let i = c.args.i in
     let same : get_or d.lines c.from.result no_line ≡ line (desk_plan d) i =
-    ap (λ j. get_or d.lines j no_line) c.from.ensures ∙ sym (get_or-take d.total d.lines i no_line c.requires.line) in
+    ap (λ j. get_or d.lines j no_line) c.from.ensures ∙ sym (get_or-take d.total d.lines i no_line c.requires) in
     let fits : SFits w16 (get_or d.lines c.from.result no_line).gain = search rules in
     ap₂ (λ f g. record { frame = f; gain = g })
     (ap (λ k. get_or c.args.tape.now k silence) (c.place-at.ensures ∙ ap₂ (λ l h. slot l.start (pos c.args.n -ℤ pos h)) same (ap (λ j. get_or d.held j 0) c.from-2.ensures ∙ d.delayed i)))
