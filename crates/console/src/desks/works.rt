@@ -38,16 +38,24 @@ impl Desk {
     pub(crate) fn node_count(&self) -> usize
         ensures { result ≡ length (desk_plan self.now).nodes }
     {
-        self.count
+        self.nodes.len()
+    }
+
+    // How long line `i` is held.
+    fn delay(&self, i: u8) -> u16
+        requires { i < length self.now.lines.items }
+        ensures { result ≡ delay_of self.now.patch i }
+    {
+        self.patch.delays()[usize::from(i)]
     }
 
     // What line `i` brings at frame `n`.
     fn part(&self, tape: &Tape, n: u32, i: u8) -> Part
-        requires { i < self.now.total }
+        requires { i < length self.now.lines.items }
         ensures { result ≡ brought (desk_plan self.now) (delay_of self.now.patch) (on_tape tape.now) (pos n) i }
     {
         let line = self.lines[usize::from(i)];
-        let at = place(line.start, n, self.held[usize::from(i)]);
+        let at = place(line.start, n, self.delay(i));
         Part {
             frame: tape[at],
             gain: line.gain,
@@ -69,7 +77,7 @@ impl Desk {
     }
 
     fn node(&self, v: u8) -> Node
-        requires { v < self.now.count }
+        requires { v < length self.now.nodes.items }
         ensures { result ≡ node (desk_plan self.now) v }
     {
         self.nodes[usize::from(v)]
@@ -77,7 +85,7 @@ impl Desk {
 
     // What node `v` hears at frame `n`.
     fn hears<L: Reel>(&self, reel: &L, tape: &Tape, n: u32, v: u8) -> Frame
-        requires { v < self.now.count }
+        requires { v < length self.now.nodes.items }
         ensures { result ≡ hears (desk_plan self.now) (delay_of self.now.patch) (L.tracks reel.now) tape.now n v }
     {
         match self.node(v).source {
@@ -88,7 +96,7 @@ impl Desk {
 
     // The work on node `v` at frame `n`.
     fn play_node<R: Rack, L: Reel>(&self, rack: &mut R, reel: &L, tape: &mut Tape, n: u32, v: u8)
-        requires { v < self.now.count }
+        requires { v < length self.now.nodes.items }
         ensures { deck (R.units rack.new) tape.new ≡ node_work (desk_plan self.now) (delay_of self.now.patch) (L.tracks reel.now) n (deck (R.units rack.old) tape.old) v }
     {
         let heard = self.hears(reel, tape, n, v);

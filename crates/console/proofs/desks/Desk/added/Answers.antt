@@ -23,7 +23,7 @@ loop-at-smaller c =
     let inside = is_line d _ c.args.v c.loop-at.sum c.loop-at.at i c.in-Some.is c.loop-at.invariant in
     subst (λ at. left_from c.next_after-at.result < left_from at) (sym c.in-Some.is)
     (subst (λ next. left_from next < left_from (Some i)) (sym (c.next_after-at.ensures ∙ ap (next_after d.patch.inputs) c.from-in-Some.ensures))
-    (left_falls d.patch.inputs.next i (by_ends d).rising (omega (arith, inside, d.sizes.4))))
+    (left_falls d.patch.inputs.next i (by_ends d).rising (omega (arith, inside, d.few.1))))
 
 pub loop-at-preserved : goal.loop-at-preserved
 loop-at-preserved c =
