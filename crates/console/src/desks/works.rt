@@ -27,12 +27,15 @@ fn through<R: Rack>(rack: &mut R, node: Node, heard: Frame) -> Frame
     ensures value { result ≡ given (R.units rack.old) node.unit heard }
     ensures after { R.units rack.new ≡ moved (R.units rack.old) node.unit heard }
 {
+    // A match shows that the rack changes; a closure would hide it.
     match node.unit {
         Some(s) => rack.step(s, heard),
         None => heard,
     }
 }
 
+// A node is a number and its bound a clause: no type could say of which desk it is a node.
+// Rack, reel and tape are parameters: over a struct that lends them each clause would name the references in it.
 impl Desk {
     // How many nodes there are.
     pub(crate) fn node_count(&self) -> usize
@@ -68,6 +71,7 @@ impl Desk {
         ensures { AddsUp result (map (brought (desk_plan self.now) (delay_of self.now.patch) (on_tape tape.now) (pos n)) (lines_into (desk_plan self.now) v)) }
     {
         let mut sum = Sum::new();
+        // The links are walked by hand: the patch gives a node's first line in, and after a line the next one.
         let mut at = self.patch.first_into(usize::from(v));
         while let Some(i) = at {
             let _ = sum.add(self.part(tape, n, i));
