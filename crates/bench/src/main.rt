@@ -41,24 +41,20 @@ fn written(heap: Global, nodes: &[u8], lines: &[u8], more: &[u8]) -> Result<Vec<
 }
 
 fn done(answer: Result<(), ConsoleFault>) -> anyhow::Result<()> {
-    match answer {
-        Ok(()) => Ok(()),
-        Err(_) => Err(anyhow!("the console refuses")),
-    }
+    answer.map_err(|_| anyhow!("the console refuses"))
+}
+
+// A checksum goes on over one sample more.
+fn with_sample(sum: u32, sample: i16) -> u32 {
+    sum.wrapping_mul(31)
+        .wrapping_add(u32::from(sample.cast_unsigned()))
 }
 
 // A checksum goes on over more frames.
 fn summed(sum: u32, frames: &[Frame]) -> u32 {
-    let mut sum = sum;
-    for f in frames {
-        sum = sum
-            .wrapping_mul(31)
-            .wrapping_add(u32::from(f.left.cast_unsigned()));
-        sum = sum
-            .wrapping_mul(31)
-            .wrapping_add(u32::from(f.right.cast_unsigned()));
-    }
-    sum
+    frames.iter().fold(sum, |sum, frame| {
+        with_sample(with_sample(sum, frame.left), frame.right)
+    })
 }
 
 // A console with a session, a tape and a buffer, and the checksum so far.
@@ -85,10 +81,7 @@ impl Bench {
     }
 
     fn read(&mut self, heap: Global, text: &[u8]) -> anyhow::Result<()> {
-        match read(text, &mut self.session, heap) {
-            Ok(()) => Ok(()),
-            Err(_) => Err(anyhow!("the text is refused")),
-        }
+        read(text, &mut self.session, heap).map_err(|_| anyhow!("the text is refused"))
     }
 
     fn play<R: Rack>(&mut self, rack: &mut R) -> Result<(), ConsoleFault> {

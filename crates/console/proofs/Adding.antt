@@ -12,12 +12,9 @@ use Rattle.patch.specs.Inputs.{first_into, Links, next_after}
 use Rattle.session.specs.Plan.{line, lines_into}
 use Rattle.signals.proofs.Lines.{all_lines}
 use Rattle.std.proofs.lemmas.List.FromFn.{length-range_with_len}
-use Rattle.std.proofs.lemmas.List.{append_assoc, append-nil, length-map, length-take-le, map-append}
+use Rattle.std.proofs.lemmas.List.{append_assoc, append-nil, length-map, map-append}
 use Rattle.std.proofs.lemmas.List.Sums.{count_by-le-length, length-filter}
 use Rattle.std.specs.List.{range_with_len, AllByRecursion}
-
-pub desk_lines : (d : Desk) → length (desk_plan d).lines ≡ d.total
-desk_lines d = length-take-le d.total d.lines (omega (arith, d.sizes.1, d.sizes.4))
 
 -- a node has at most 48 lines in
 few_into : (d : Desk) (v : ℕ) → length (lines_into (desk_plan d) v) ≤ 48
@@ -28,8 +25,7 @@ few_into d v =
       length-filter (λ i. eqb (line (desk_plan d) i).end v) all,
       count_by-le-length (λ i. eqb (line (desk_plan d) i).end v) all,
       length-range_with_len 0 (length (desk_plan d).lines),
-      desk_lines d,
-      d.sizes.4,
+      d.few.1,
     )
 
 -- the sum holds what some of the lines into v bring, and from `at` on the others are linked
@@ -38,7 +34,7 @@ pub record Adding (d : Desk) (make : ℕ → Part) (v : ℕ) (sum : Sum) (at : O
   pub rest : List ℕ
   pub all : done ++ rest ≡ lines_into (desk_plan d) v
   pub linked : Links (next_after d.patch.inputs) at rest
-  pub inside : AllByRecursion (λ i. i < d.total) rest
+  pub inside : AllByRecursion (λ i. i < length d.lines.items) rest
   pub added : AddsUp sum (map make done)
 
 pub adds_first : (d : Desk) (make : ℕ → Part) (v : ℕ) (sum : Sum) → v < 16 → AddsUp sum [] → Adding d make v sum (first_into d.patch.inputs v)
@@ -47,7 +43,7 @@ adds_first d make v sum l a = record {
   rest = lines_into (desk_plan d) v;
   all = refl;
   linked = (by_ends d).linked v l;
-  inside = all_lines (desk_plan d) v (λ i. i < d.total) (λ i b e. subst (λ k. i < k) (desk_lines d) b);
+  inside = all_lines (desk_plan d) v (λ i. i < length d.lines.items) (λ i b e. b);
   added = a;
 }
 
@@ -60,7 +56,7 @@ pub adds_next : (d : Desk) (make : ℕ → Part) (v : ℕ) (sum more : Sum) (roo
     → Adding d make v more (next_after d.patch.inputs i)
 adds_next d make v sum more room at i part e is a r l q n =
     let next = next_after d.patch.inputs in
-    let on = links_on next (λ i. i < d.total) i a.rest (subst (λ at. Links next at a.rest) e a.linked) a.inside in
+    let on = links_on next (λ i. i < length d.lines.items) i a.rest (subst (λ at. Links next at a.rest) e a.linked) a.inside in
     let whole : a.done ++ i ∷ on.0 ≡ lines_into (desk_plan d) v = ap (λ is. a.done ++ is) (sym on.1) ∙ a.all in
     let few : length (map make a.done) < 48 =
     omega (arith, length-map a.done make, length-append a.done (i ∷ on.0), ap length whole, few_into d v) in
@@ -74,9 +70,9 @@ adds_next d make v sum more room at i part e is a r l q n =
           (adds_one sum more (map make a.done) part room a.added few r l q n);
     }
 
-pub is_line : (d : Desk) (make : ℕ → Part) (v : ℕ) (sum : Sum) (at : Option ℕ) (i : ℕ) → at ≡ Some i → Adding d make v sum at → i < d.total
+pub is_line : (d : Desk) (make : ℕ → Part) (v : ℕ) (sum : Sum) (at : Option ℕ) (i : ℕ) → at ≡ Some i → Adding d make v sum at → i < length d.lines.items
 is_line d make v sum at i e a =
-    (links_on (next_after d.patch.inputs) (λ i. i < d.total) i a.rest (subst (λ at. Links (next_after d.patch.inputs) at a.rest) e a.linked) a.inside).3
+    (links_on (next_after d.patch.inputs) (λ i. i < length d.lines.items) i a.rest (subst (λ at. Links (next_after d.patch.inputs) at a.rest) e a.linked) a.inside).3
 
 -- where none stands all are added
 pub adds_all : (d : Desk) (make : ℕ → Part) (v : ℕ) (sum : Sum) (at : Option ℕ) → at ≡ None → Adding d make v sum at → AddsUp sum (map make (lines_into (desk_plan d) v))

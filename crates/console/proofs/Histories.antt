@@ -1,6 +1,6 @@
 -- The promise, by induction over histories.
 use Rattle.std.proofs.Common.{◌≡◌, ℕ, ◌+◌, List, [], ◌++◌, map, length, Ok, Err, Result, sym, refl, ap, subst, ap₂, arith}
-use Rattle.console.proofs.Copies.{rules_of}
+use Rattle.console.proofs.Rules.{rules_of}
 use Rattle.console.specs.Answers.{by_answer}
 use Rattle.console.specs.Calls.{deck_after, next_frames, Played, Rewound, Started}
 use Rattle.console.specs.Desks.{desk_plan}

@@ -1,5 +1,5 @@
 pub mod Adding
 pub mod Arranging
-pub mod Copies
 pub mod Filling
 pub mod Histories
+pub mod Rules

@@ -3,5 +3,4 @@ pub mod Calls
 pub mod Desks
 pub mod Faults
 pub mod Histories
-pub mod Plans
 pub mod Points

@@ -3,7 +3,7 @@ use patch::faults::PatchFault;
 pub mod told;
 
 // Why a console does not play.
-#[derive(Clone, Copy)]
+#[derive(Clone, Copy, PartialEq, Eq, Debug)]
 pub enum PlayFault {
     // The tape has not exactly 16,384 frames.
     TapeLength,
@@ -14,7 +14,7 @@ pub enum PlayFault {
 }
 
 // Why a call on the console is refused: by the patch, or at playing.
-#[derive(Clone, Copy)]
+#[derive(Clone, Copy, Debug)]
 pub enum ConsoleFault {
     Patch(PatchFault),
     Play(PlayFault),

@@ -24,6 +24,7 @@ impl Fault for MixFault {
     }
 }
 
+// A conversion is written out, since clauses name what it gives and a derived one does not say it.
 impl From<ReadFault> for MixFault {
     ghost from_gives = { λ x y. y ≡ Text x };
 
@@ -52,7 +53,7 @@ impl From<PatchFault> for MixFault {
     ghost from_gives = { λ x y. y ≡ Console (Patch x) };
 
     fn from(fault: PatchFault) -> MixFault {
-        MixFault::Console(ConsoleFault::Patch(fault))
+        MixFault::Console(fault.into())
     }
 }
 

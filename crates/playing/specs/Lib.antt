@@ -1,5 +1,3 @@
-pub mod Arranged
-pub mod Desks
 pub mod Promise
 pub mod Tape
 pub mod Theorems

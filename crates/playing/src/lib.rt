@@ -4,7 +4,6 @@
 ghost use Rattle.std.specs.Prelude.{◌≡◌, true};
 ghost use Rattle.playing.specs.Theorems.{PlaysThePatch};
 
-mod desks;
 // A theorem and its proof stand apart from the call, so that a call which denies it is refused for that alone.
 mod proved;
 

@@ -23,19 +23,13 @@ use words::faults::ReadFault;
 
 fn read_session(rt: &HostRuntime, session: &mut Session) -> Result<(), Stop> {
     let mut text = Vec::new(rt.alloc());
-    match rt.stdin().read_to_end(&mut text) {
-        Ok(_) => {}
-        Err(e) => return Err(Stop::Failed(e.into())),
-    }
-    match read(&text, session, rt.alloc()) {
-        Ok(()) => Ok(()),
-        Err(ReadFault::NoMemory) => Err(Stop::Failed(anyhow!("no memory for the session"))),
-        Err(fault) => Err(Stop::Refused(fault.into())),
-    }
-}
-
-fn open<'a>(session: &Session, files: &'a TrackFiles) -> Result<WaveReel<'a>, MixFault> {
-    Ok(WaveReel::open(session, files.bytes(), files.parts())?)
+    rt.stdin()
+        .read_to_end(&mut text)
+        .map_err(anyhow::Error::from)?;
+    read(&text, session, rt.alloc()).map_err(|fault| match fault {
+        ReadFault::NoMemory => Stop::Failed(anyhow!("no memory for the session")),
+        fault => Stop::Refused(fault.into()),
+    })
 }
 
 fn run(rt: &HostRuntime, progress: bool) -> Result<(), Stop> {
@@ -43,7 +37,9 @@ fn run(rt: &HostRuntime, progress: bool) -> Result<(), Stop> {
     read_session(rt, &mut session)?;
     match read_tracks(rt)? {
         Some(files) => {
-            let reel = open(&session, &files)?;
+            let reel = WaveReel::open(&session, files.bytes(), files.parts()).map_err(
+                MixFault::Wave,
+            )?;
             mix(rt, &session, &reel, progress)
         }
         None => mix(rt, &session, &Clicks, progress),
@@ -52,17 +48,10 @@ fn run(rt: &HostRuntime, progress: bool) -> Result<(), Stop> {
 
 // Whether progress is asked for.
 fn asked(rt: &HostRuntime) -> anyhow::Result<bool> {
-    let mut args = env::args(rt)?;
-    let _ = args.next();
-    match args.next() {
-        Some(arg) => {
-            if arg.as_str() == "--progress" {
-                Ok(true)
-            } else {
-                Err(anyhow!("the only argument is --progress"))
-            }
-        }
+    match env::args(rt)?.nth(1) {
         None => Ok(false),
+        Some(arg) if arg.as_str() == "--progress" => Ok(true),
+        Some(_) => Err(anyhow!("the only argument is --progress")),
     }
 }
 

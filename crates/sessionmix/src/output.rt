@@ -25,8 +25,5 @@ pub(crate) fn list(rt: &HostRuntime, summary: Summary, frames: &[Frame]) -> anyh
 }
 
 pub(crate) fn save(rt: &HostRuntime, bytes: &[u8]) -> anyhow::Result<()> {
-    match fs::write(rt, "mix.wav", bytes) {
-        Ok(()) => Ok(()),
-        Err(e) => Err(anyhow!(format!(in rt.alloc(); "mix.wav cannot be written: {e}")?)),
-    }
+    fs::write(rt, "mix.wav", bytes).map_err(|e| anyhow!("mix.wav cannot be written: {e}"))
 }

@@ -31,16 +31,6 @@ fn begin<R: Rack, L: Reel>(
     })
 }
 
-fn play<R: Rack, L: Reel>(
-    console: &mut Console,
-    rack: &mut R,
-    reel: &L,
-    tape: &mut [Frame],
-    out: &mut [Frame],
-) -> Result<(), MixFault> {
-    Ok(console.play(rack, reel, tape, out)?)
-}
-
 // Fills a buffer of any length, at most 4,096 frames at a time.
 fn play_all<R: Rack, L: Reel>(
     rt: &HostRuntime,
@@ -52,29 +42,26 @@ fn play_all<R: Rack, L: Reel>(
     progress: bool,
 ) -> Result<(), Stop> {
     let total = out.len();
-    let mut at = 0;
-    while at < total {
-        let to = if total - at > 4096 { at + 4096 } else { total };
-        play(console, rack, reel, tape, &mut out[at..to])?;
-        at = to;
+    let mut played = 0usize;
+    for frames in out.chunks_mut(4096) {
+        console
+            .play(rack, reel, tape, frames)
+            .map_err(MixFault::Console)?;
+        played = played.saturating_add(frames.len());
         if progress {
-            show(rt, at, total)?;
+            show(rt, played, total)?;
         }
     }
     Ok(())
 }
 
-fn show(rt: &HostRuntime, at: usize, total: usize) -> anyhow::Result<()> {
-    eprintln!(rt; "{at} of {total} frames")?;
+fn show(rt: &HostRuntime, played: usize, total: usize) -> anyhow::Result<()> {
+    eprintln!(rt; "{played} of {total} frames")?;
     Ok(())
 }
 
-fn file(session: &Session, frames: &[Frame], bytes: &mut [u8]) -> Result<(), MixFault> {
-    Ok(write_file(session, frames, bytes)?)
-}
-
-fn silent(rt: &HostRuntime, count: usize) -> anyhow::Result<Vec<Frame>> {
-    Ok(vec![in rt.alloc(); Frame::SILENCE; count]?)
+fn filled<T: Copy + Drop>(rt: &HostRuntime, value: T, count: usize) -> anyhow::Result<Vec<T>> {
+    Ok(vec![in rt.alloc(); value; count]?)
 }
 
 fn mix_with<R: Rack + Drop, L: Reel>(
@@ -85,9 +72,9 @@ fn mix_with<R: Rack + Drop, L: Reel>(
     progress: bool,
 ) -> Result<(), Stop> {
     let mut console = Console::new();
-    let mut tape = silent(rt, 16384)?;
+    let mut tape = filled(rt, Frame::SILENCE, 16384)?;
     let summary = begin(&mut console, session, &mut rack, reel, &mut tape)?;
-    let mut frames = silent(rt, summary.frames as usize)?;
+    let mut frames = filled(rt, Frame::SILENCE, summary.frames as usize)?;
     play_all(
         rt,
         &mut console,
@@ -97,15 +84,11 @@ fn mix_with<R: Rack + Drop, L: Reel>(
         &mut frames,
         progress,
     )?;
-    let mut bytes = zeros(rt, 44 + 4 * frames.len())?;
-    file(session, &frames, &mut bytes)?;
+    let mut bytes = filled(rt, 0u8, 44 + 4 * frames.len())?;
+    write_file(session, &frames, &mut bytes).map_err(MixFault::Write)?;
     save(rt, &bytes)?;
     list(rt, summary, &frames)?;
     Ok(())
-}
-
-fn zeros(rt: &HostRuntime, count: usize) -> anyhow::Result<Vec<u8>> {
-    Ok(vec![in rt.alloc(); 0u8; count]?)
 }
 
 // Mixes a session over its own rack, writes the mix and lists it.

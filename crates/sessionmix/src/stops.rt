@@ -1,5 +1,3 @@
-ghost use Rattle.std.specs.Prelude.{◌≡◌};
-
 use faults::MixFault;
 
 // Why there is no mix: it is refused, or something outside fails.

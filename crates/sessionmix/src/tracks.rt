@@ -25,31 +25,27 @@ fn read_track(rt: &HostRuntime, t: usize) -> anyhow::Result<Option<Vec<u8>>> {
     let name = format!(in rt.alloc(); "track{t}.wav")?;
     match fs::read(rt, name.as_str()) {
         Ok(bytes) => Ok(Some(bytes)),
-        Err(e) => {
-            if e.kind() == ErrorKind::NotFound {
-                return Ok(None);
-            }
-            Err(anyhow!(format!(in rt.alloc(); "{name} cannot be read: {e}")?))
-        }
+        Err(e) if e.kind() == ErrorKind::NotFound => Ok(None),
+        Err(e) => Err(anyhow!("{name} cannot be read: {e}")),
     }
 }
 
 // The files track0.wav to track7.wav; None where none of them is there.
 pub(crate) fn read_tracks(rt: &HostRuntime) -> anyhow::Result<Option<TrackFiles>> {
-    let mut files = TrackFiles {
-        bytes: Vec::new(rt.alloc()),
-        parts: [TrackPart::EMPTY; 8],
-    };
-    let mut found = false;
-    for t in 0..8 {
+    let mut bytes = Vec::new(rt.alloc());
+    let mut parts = [None; 8];
+    for (t, part) in parts.iter_mut().enumerate() {
         if let Some(file) = read_track(rt, t)? {
-            found = true;
-            files.parts[t] = TrackPart {
-                start: files.bytes.len(),
+            *part = Some(TrackPart {
+                start: bytes.len(),
                 length: file.len(),
-            };
-            files.bytes.extend_from_slice(&file)?;
+            });
+            bytes.extend_from_slice(&file)?;
         }
     }
-    if found { Ok(Some(files)) } else { Ok(None) }
+    if parts.iter().all(|part| part.is_none()) {
+        return Ok(None);
+    }
+    let parts = parts.map(|part| part.unwrap_or(TrackPart::EMPTY));
+    Ok(Some(TrackFiles { bytes, parts }))
 }

@@ -1,44 +1,32 @@
-ghost use Rattle.std.specs.Prelude.{◌≡◌, ◌≤◌, length, if◌then◌else◌, Ok, Err, nat_eq};
-ghost use Rattle.console.specs.Answers.{play_answer, rewind_answer};
-ghost use Rattle.console.specs.declared.faults.PlayFault.TheVariants.{TapeLength};
+ghost use Rattle.std.specs.Prelude.{◌≡◌, ◌+◌, Ok, nat_le};
+ghost use Rattle.console.specs.Answers.{check, node_check};
+ghost use Rattle.console.specs.declared.faults.ConsoleFault.TheVariants.{Play};
+ghost use Rattle.console.specs.declared.faults.PlayFault.TheVariants.{TooManyFrames, PastTheEnd};
 
 use crate::consoles::Console;
 use crate::faults::{ConsoleFault, PlayFault};
-use frames::samples::Frame;
 use patch::faults::PatchFault;
 
-// Has the tape exactly 16,384 frames?
-pub(crate) fn check_tape(tape: &[Frame]) -> Result<(), PlayFault>
-    ensures { result ≡ (if nat_eq (length tape.now) 16384 then Ok tt else Err TapeLength) }
-{
-    if tape.len() != 16384 {
-        return Err(PlayFault::TapeLength);
-    }
-    Ok(())
-}
-
 impl Console {
-    // May the console go on with this tape?
-    pub(crate) fn check_rewind(&self, tape: &[Frame]) -> Result<(), ConsoleFault>
-        ensures { result ≡ rewind_answer self.now tape.now }
+    // Does it hold a node?
+    pub(crate) fn check_node(&self) -> Result<(), ConsoleFault>
+        ensures { result ≡ node_check self.now (Ok tt) }
     {
         if self.desk.node_count() == 0 {
-            return Err(ConsoleFault::Patch(PatchFault::NoNode));
+            return Err(PatchFault::NoNode.into());
         }
-        check_tape(tape)?;
         Ok(())
     }
 
     // May it play so many frames?
-    pub(crate) fn check_play(&self, tape: &[Frame], frames: usize) -> Result<(), ConsoleFault>
-        ensures { result ≡ play_answer self.now tape.now frames }
+    pub(crate) fn check_frames(&self, frames: usize) -> Result<(), ConsoleFault>
+        ensures { result ≡ check (nat_le frames 4096) (Play TooManyFrames) (check (nat_le (self.now.position + frames) 1073741824) (Play PastTheEnd) (Ok tt)) }
     {
-        self.check_rewind(tape)?;
         if frames > 4096 {
-            return Err(ConsoleFault::Play(PlayFault::TooManyFrames));
+            return Err(PlayFault::TooManyFrames.into());
         }
         if self.position as usize + frames > 1073741824 {
-            return Err(ConsoleFault::Play(PlayFault::PastTheEnd));
+            return Err(PlayFault::PastTheEnd.into());
         }
         Ok(())
     }

@@ -10,33 +10,21 @@ ghost use Rattle.racks.specs.Rack.{rested};
 ghost use Rattle.session.specs.Sessions.{held};
 
 use crate::consoles::Console;
-use crate::consoles::checks::check_tape;
-use crate::desks::Desk;
-use crate::faults::ConsoleFault;
+use crate::desks::{Desk, Tape};
+use crate::faults::{ConsoleFault, PlayFault};
 use frames::samples::Frame;
 use patch::faults::PatchFault;
 use racks::interface::Rack;
 use reels::tracks::Reel;
 use session::sessions::Session;
 
-// Every frame of a tape becomes silent.
-fn hush(tape: &mut [Frame])
-    requires { length tape.old ≡ 16384 }
-    ensures { tape.new ≡ silent_tape }
-{
-    for i in 0..tape.len() {
-        tape[i] = Frame::SILENCE;
-    }
-}
-
 // The rack rests, and the tape is silent.
-fn lay<R: Rack>(rack: &mut R, tape: &mut [Frame])
-    requires { length tape.old ≡ 16384 }
+fn lay<R: Rack>(rack: &mut R, tape: &mut Tape)
     ensures rack { R.units rack.new ≡ map rested (R.units rack.old) }
     ensures tape { tape.new ≡ silent_tape }
 {
     rack.rest();
-    hush(tape);
+    tape.fill(Frame::SILENCE);
 }
 
 impl Console {
@@ -53,10 +41,9 @@ impl Console {
         ensures tape { tape.new ≡ by_answer result silent_tape tape.old }
     {
         let desk = Desk::new(session, rack)?;
-        check_tape(tape)?;
+        let tape = tape.as_mut_array().ok_or(PlayFault::TapeLength)?;
         lay(rack, tape);
-        self.desk = desk;
-        self.position = 0;
+        *self = Console { desk, position: 0 };
         Ok(())
     }
 
@@ -74,7 +61,9 @@ impl Console {
         ensures deck { deck (R.units rack.new) tape.new ≡ by_answer result (after_frames (console_plan self.old) (ordered_nodes (console_patch self.old)) (delay_of (console_patch self.old)) (L.tracks reel.now) (length out.old) self.old.position (deck (R.units rack.old) tape.old)) (deck (R.units rack.old) tape.old) }
         ensures out { out.new ≡ by_answer result (frames_out (console_plan self.old) (ordered_nodes (console_patch self.old)) (delay_of (console_patch self.old)) (L.tracks reel.now) (length out.old) self.old.position (deck (R.units rack.old) tape.old)) out.old }
     {
-        self.check_play(tape, out.len())?;
+        self.check_node()?;
+        let tape = tape.as_mut_array().ok_or(PlayFault::TapeLength)?;
+        self.check_frames(out.len())?;
         self.desk.fill(rack, reel, tape, out, self.position);
         self.position += out.len() as u32;
         Ok(())
@@ -92,7 +81,8 @@ impl Console {
         ensures rack { R.units rack.new ≡ by_answer result (map rested (R.units rack.old)) (R.units rack.old) }
         ensures tape { tape.new ≡ by_answer result silent_tape tape.old }
     {
-        self.check_rewind(tape)?;
+        self.check_node()?;
+        let tape = tape.as_mut_array().ok_or(PlayFault::TapeLength)?;
         lay(rack, tape);
         self.position = 0;
         Ok(())

@@ -3,21 +3,8 @@ ghost use Rattle.console.specs.Desks.{desk_plan};
 ghost use Rattle.patch.specs.Patches.{ordered_nodes};
 
 use crate::desks::Desk;
+use arrayvec::ArrayVec;
 use patch::patches::Patch;
-use session::nodes::{Line, Node, Source};
-
-// What stands where no node is.
-pub(crate) const NO_NODE: Node = Node {
-    source: Source::Bus,
-    unit: None,
-};
-
-// What stands where no line is.
-pub(crate) const NO_LINE: Line = Line {
-    start: 0,
-    end: 0,
-    gain: 0,
-};
 
 impl Desk {
     // A desk without nodes and lines.
@@ -27,11 +14,8 @@ impl Desk {
         ensures order { ordered_nodes result.patch ≡ [] }
     {
         Desk {
-            nodes: [NO_NODE; 16],
-            count: 0,
-            lines: [NO_LINE; 48],
-            total: 0,
-            held: [0; 48],
+            nodes: ArrayVec::new(),
+            lines: ArrayVec::new(),
             patch: Patch::empty(),
         }
     }

@@ -1,4 +1,4 @@
-ghost use Rattle.std.specs.Prelude.{◌≡◌, ◌+◌, ◌<◌, ◌≤◌, map, length, pos, ◌-ℤ◌, slice_set};
+ghost use Rattle.std.specs.Prelude.{◌≡◌, ◌+◌, ◌<◌, ◌≤◌, map, length, pos, ◌-ℤ◌};
 ghost use Rattle.console.specs.Desks.{desk_plan};
 ghost use Rattle.frames.proofs.Totals.{AddsUp};
 ghost use Rattle.patch.specs.Patches.{delay_of, ordered_nodes};
@@ -7,7 +7,7 @@ ghost use Rattle.playing.specs.Work.{after_frames, deck, frame_work, frames_out,
 ghost use Rattle.session.specs.Plan.{lines_into, node};
 ghost use Rattle.signals.specs.Signals.{brought};
 
-use crate::desks::Desk;
+use crate::desks::{Desk, Tape};
 use frames::samples::{Frame, Part};
 use frames::sums::Sum;
 use racks::interface::Rack;
@@ -27,28 +27,38 @@ fn through<R: Rack>(rack: &mut R, node: Node, heard: Frame) -> Frame
     ensures value { result ≡ given (R.units rack.old) node.unit heard }
     ensures after { R.units rack.new ≡ moved (R.units rack.old) node.unit heard }
 {
+    // A match shows that the rack changes; a closure would hide it.
     match node.unit {
         Some(s) => rack.step(s, heard),
         None => heard,
     }
 }
 
+// A node is a number and its bound a clause: no type could say of which desk it is a node.
+// Rack, reel and tape are parameters: over a struct that lends them each clause would name the references in it.
 impl Desk {
     // How many nodes there are.
     pub(crate) fn node_count(&self) -> usize
         ensures { result ≡ length (desk_plan self.now).nodes }
     {
-        self.count
+        self.nodes.len()
+    }
+
+    // How long line `i` is held.
+    fn delay(&self, i: u8) -> u16
+        requires { i < length self.now.lines.items }
+        ensures { result ≡ delay_of self.now.patch i }
+    {
+        self.patch.delays()[usize::from(i)]
     }
 
     // What line `i` brings at frame `n`.
-    fn part(&self, tape: &[Frame], n: u32, i: u8) -> Part
-        requires line { i < self.now.total }
-        requires tape { length tape.now ≡ 16384 }
+    fn part(&self, tape: &Tape, n: u32, i: u8) -> Part
+        requires { i < length self.now.lines.items }
         ensures { result ≡ brought (desk_plan self.now) (delay_of self.now.patch) (on_tape tape.now) (pos n) i }
     {
         let line = self.lines[usize::from(i)];
-        let at = place(line.start, n, self.held[usize::from(i)]);
+        let at = place(line.start, n, self.delay(i));
         Part {
             frame: tape[at],
             gain: line.gain,
@@ -56,12 +66,12 @@ impl Desk {
     }
 
     // What the lines into node `v` bring at frame `n`, added on each side.
-    fn added(&self, tape: &[Frame], n: u32, v: u8) -> Sum
-        requires node { v < 16 }
-        requires tape { length tape.now ≡ 16384 }
+    fn added(&self, tape: &Tape, n: u32, v: u8) -> Sum
+        requires { v < 16 }
         ensures { AddsUp result (map (brought (desk_plan self.now) (delay_of self.now.patch) (on_tape tape.now) (pos n)) (lines_into (desk_plan self.now) v)) }
     {
         let mut sum = Sum::new();
+        // The links are walked by hand: the patch gives a node's first line in, and after a line the next one.
         let mut at = self.patch.first_into(usize::from(v));
         while let Some(i) = at {
             let _ = sum.add(self.part(tape, n, i));
@@ -71,16 +81,15 @@ impl Desk {
     }
 
     fn node(&self, v: u8) -> Node
-        requires { v < self.now.count }
+        requires { v < length self.now.nodes.items }
         ensures { result ≡ node (desk_plan self.now) v }
     {
         self.nodes[usize::from(v)]
     }
 
     // What node `v` hears at frame `n`.
-    fn hears<L: Reel>(&self, reel: &L, tape: &[Frame], n: u32, v: u8) -> Frame
-        requires node { v < self.now.count }
-        requires tape { length tape.now ≡ 16384 }
+    fn hears<L: Reel>(&self, reel: &L, tape: &Tape, n: u32, v: u8) -> Frame
+        requires { v < length self.now.nodes.items }
         ensures { result ≡ hears (desk_plan self.now) (delay_of self.now.patch) (L.tracks reel.now) tape.now n v }
     {
         match self.node(v).source {
@@ -90,9 +99,8 @@ impl Desk {
     }
 
     // The work on node `v` at frame `n`.
-    fn play_node<R: Rack, L: Reel>(&self, rack: &mut R, reel: &L, tape: &mut [Frame], n: u32, v: u8)
-        requires node { v < self.now.count }
-        requires tape { length tape.old ≡ 16384 }
+    fn play_node<R: Rack, L: Reel>(&self, rack: &mut R, reel: &L, tape: &mut Tape, n: u32, v: u8)
+        requires { v < length self.now.nodes.items }
         ensures { deck (R.units rack.new) tape.new ≡ node_work (desk_plan self.now) (delay_of self.now.patch) (L.tracks reel.now) n (deck (R.units rack.old) tape.old) v }
     {
         let heard = self.hears(reel, tape, n, v);
@@ -101,8 +109,7 @@ impl Desk {
     }
 
     // The work on frame `n`, on each node in the order placed.
-    fn play_frame<R: Rack, L: Reel>(&self, rack: &mut R, reel: &L, tape: &mut [Frame], n: u32)
-        requires { length tape.old ≡ 16384 }
+    fn play_frame<R: Rack, L: Reel>(&self, rack: &mut R, reel: &L, tape: &mut Tape, n: u32)
         ensures { deck (R.units rack.new) tape.new ≡ frame_work (desk_plan self.now) (ordered_nodes self.now.patch) (delay_of self.now.patch) (L.tracks reel.now) n (deck (R.units rack.old) tape.old) }
     {
         for v in self.patch.order() {
@@ -110,24 +117,13 @@ impl Desk {
         }
     }
 
-    // Node 0's frame `k` from frame `n` on goes to place `k` of a buffer.
-    fn fill_one<R: Rack, L: Reel>(
-        &self,
-        rack: &mut R,
-        reel: &L,
-        tape: &mut [Frame],
-        out: &mut [Frame],
-        n: u32,
-        k: u32,
-    )
-        requires tape { length tape.old ≡ 16384 }
-        requires inside { k < length out.old }
-        requires fits { n + k < 4294967296 }
-        ensures deck { deck (R.units rack.new) tape.new ≡ frame_work (desk_plan self.now) (ordered_nodes self.now.patch) (delay_of self.now.patch) (L.tracks reel.now) (n + k) (deck (R.units rack.old) tape.old) }
-        ensures out { out.new ≡ slice_set out.old k (on_tape tape.new 0 (pos (n + k))) }
+    // The work on frame `n`, and then node 0's frame.
+    fn next_frame<R: Rack, L: Reel>(&self, rack: &mut R, reel: &L, tape: &mut Tape, n: u32) -> Frame
+        ensures deck { deck (R.units rack.new) tape.new ≡ frame_work (desk_plan self.now) (ordered_nodes self.now.patch) (delay_of self.now.patch) (L.tracks reel.now) n (deck (R.units rack.old) tape.old) }
+        ensures frame { result ≡ on_tape tape.new 0 (pos n) }
     {
-        self.play_frame(rack, reel, tape, n + k);
-        out[k as usize] = tape[place(0, n + k, 0)];
+        self.play_frame(rack, reel, tape, n);
+        tape[place(0, n, 0)]
     }
 
     // Node 0's frames from frame `n` on fill a buffer.
@@ -135,17 +131,16 @@ impl Desk {
         &self,
         rack: &mut R,
         reel: &L,
-        tape: &mut [Frame],
+        tape: &mut Tape,
         out: &mut [Frame],
         n: u32,
     )
-        requires tape { length tape.old ≡ 16384 }
-        requires end { n + length out.old ≤ 1073741824 }
+        requires { n + length out.old ≤ 1073741824 }
         ensures deck { deck (R.units rack.new) tape.new ≡ after_frames (desk_plan self.now) (ordered_nodes self.now.patch) (delay_of self.now.patch) (L.tracks reel.now) (length out.old) n (deck (R.units rack.old) tape.old) }
         ensures out { out.new ≡ frames_out (desk_plan self.now) (ordered_nodes self.now.patch) (delay_of self.now.patch) (L.tracks reel.now) (length out.old) n (deck (R.units rack.old) tape.old) }
     {
-        for k in 0..out.len() as u32 {
-            self.fill_one(rack, reel, tape, out, n, k);
+        for (k, frame) in out.iter_mut().enumerate() {
+            *frame = self.next_frame(rack, reel, tape, n + k as u32);
         }
     }
 }

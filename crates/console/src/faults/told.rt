@@ -15,12 +15,7 @@ impl Fault for PlayFault {
             PlayFault::TooManyFrames => 23,
             PlayFault::PastTheEnd => 24,
         };
-        Refusal {
-            number,
-            layer: Layer::Play,
-            first: 0,
-            second: 0,
-        }
+        Refusal::new(number, Layer::Play, 0, 0)
     }
 }
 
@@ -35,6 +30,7 @@ impl Fault for ConsoleFault {
     }
 }
 
+// A conversion is written out, since clauses name what it gives and a derived one does not say it.
 impl From<PatchFault> for ConsoleFault {
     ghost from_gives = { λ x y. y ≡ Patch x };
 

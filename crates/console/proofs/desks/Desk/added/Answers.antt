@@ -11,10 +11,10 @@ loop-at-init c =
     let d = c.args.self.now in
     let new = c.new-sum.ensures in
     subst (Adding d _ c.args.v c.new-sum.result) (sym (c.first_into-at.ensures ∙ ap (first_into d.patch.inputs) c.from.ensures))
-    (adds_first d _ c.args.v c.new-sum.result c.requires.node (new.left, new.right, new.lines))
+    (adds_first d _ c.args.v c.new-sum.result c.requires (new.left, new.right, new.lines))
 
 pub part-requires : goal.part-requires
-part-requires c = record { line = is_line c.args.self.now _ c.args.v c.loop-at.sum c.loop-at.at c.in-Some.i c.in-Some.is c.loop-at.invariant; tape = c.requires.tape }
+part-requires c = is_line c.args.self.now _ c.args.v c.loop-at.sum c.loop-at.at c.in-Some.i c.in-Some.is c.loop-at.invariant
 
 pub loop-at-smaller : goal.loop-at-smaller
 loop-at-smaller c =
@@ -23,7 +23,7 @@ loop-at-smaller c =
     let inside = is_line d _ c.args.v c.loop-at.sum c.loop-at.at i c.in-Some.is c.loop-at.invariant in
     subst (λ at. left_from c.next_after-at.result < left_from at) (sym c.in-Some.is)
     (subst (λ next. left_from next < left_from (Some i)) (sym (c.next_after-at.ensures ∙ ap (next_after d.patch.inputs) c.from-in-Some.ensures))
-    (left_falls d.patch.inputs.next i (by_ends d).rising (omega (arith, inside, d.sizes.4))))
+    (left_falls d.patch.inputs.next i (by_ends d).rising (omega (arith, inside, d.few.1))))
 
 pub loop-at-preserved : goal.loop-at-preserved
 loop-at-preserved c =

@@ -1,17 +1,17 @@
-use Rattle.std.proofs.Common.{ℕ, ◌<◌, length, get_or, sym, refl, ap, ◌∙◌, subst, arith}
-use Rattle.console.proofs.Copies.{all_zero}
+use Rattle.std.proofs.Common.{ℕ, [], ◌<◌, ◌≡◌, List, length, sym, ap, ◌∙◌, subst, arith}
 use Rattle.console.proofs.desks.Desk.empty.Goals as goal
+use Rattle.patch.specs.Inputs.{Arranges}
 
-none : (j : ℕ) → j < 0 → ⊥
-none j h = omega arith
+none : {X : Type 0} (xs : List X) (i : ℕ) → xs ≡ [] → i < length xs → ⊥
+none xs i e h = omega (arith, ap length e)
 
 pub invariant_of-result : goal.invariant_of-result
 invariant_of-result c =
     let h = c.empty.ensures in
     record {
-      sizes = (refl, refl, refl, omega arith, omega arith);
-      starts = λ i l. absurd (none i l);
-      delayed = λ i. all_zero 48 i ∙ sym (ap (λ xs. get_or xs i 0) h.delays);
-      ordered = λ k l. absurd (none k (subst (λ xs. k < length xs) h.order l));
-      arranged = ∣ h.inputs ∣₁;
+      few = (omega (arith, ap length c.new.ensures), omega (arith, ap length c.new-2.ensures));
+      starts = λ i l. absurd (none _ i c.new-2.ensures l);
+      held = ap length (h.delays) ∙ sym (ap length c.new-2.ensures);
+      ordered = λ k l. absurd (none _ k h.order l);
+      arranged = ∣ subst (λ lines. Arranges lines c.empty.result.inputs) (sym c.new-2.ensures) h.inputs ∣₁;
     }

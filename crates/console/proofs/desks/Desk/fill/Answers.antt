@@ -1,4 +1,4 @@
-use Rattle.std.proofs.Common.{◌≡◌, ◌+◌, ◌++◌, length, drop, set, pos, sym, ap, ◌∙◌, ap₂, arith, rules}
+use Rattle.std.proofs.Common.{◌≡◌, ◌+◌, ◌++◌, length, drop, set, pos, sym, ap, ◌∙◌, ap₂, arith}
 use Rattle.console.proofs.Filling.{after_more, out_length, out_more, set_next}
 use Rattle.console.proofs.desks.Desk.fill.Goals as goal
 use Rattle.console.specs.Desks.{desk_plan}
@@ -18,14 +18,11 @@ loop-k-preserved g c =
     let k = c.loop-k.k in
     let first = deck (g.R.Rack.units c.args.rack.now) c.args.tape.now in
     let out = c.args.out.now in
-    let h = c.fill_one.ensures in
-    let long : length c.fill_one.new.tape ≡ 16384 = search rules in
-    let now : deck (g.R.Rack.units c.fill_one.new.rack) c.fill_one.new.tape ≡ after_frames p order delay reel (k + 1) n first =
-    h.deck ∙ ap (frame_work p order delay reel (n + k)) c.loop-k.invariant.1 ∙ sym (after_more p order delay reel k n first) in (
-      long,
+    let h = c.next_frame.ensures in
+    let now : deck (g.R.Rack.units c.next_frame.new.rack) c.next_frame.new.tape ≡ after_frames p order delay reel (k + 1) n first =
+    h.deck ∙ ap (frame_work p order delay reel (n + k)) c.loop-k.invariant.0 ∙ sym (after_more p order delay reel k n first) in (
       now,
-      h.out
-          ∙ ap₂ (λ o t. set o k (on_tape t 0 (pos (n + k)))) c.loop-k.invariant.2 (ap (λ (x : Deck). x.tape) now)
+      ap₂ (λ o f. set o k f) c.loop-k.invariant.1 (h.frame ∙ ap (λ (x : Deck). on_tape x.tape 0 (pos (n + k))) now)
           ∙ set_next (frames_out p order delay reel k n first) out k _ (out_length p order delay reel k n first) c.loop-k-test.true
           ∙ ap (λ l. l ++ drop (k + 1) out) (sym (out_more p order delay reel k n first)),
     )
@@ -42,6 +39,6 @@ returns g c =
     let first = deck (g.R.Rack.units c.args.rack.now) c.args.tape.now in
     let all : k ≡ length c.args.out.now = omega arith in
     record {
-      deck = c.loop-k.invariant.1 ∙ ap (λ j. after_frames p order delay reel j n first) all;
-      out = c.loop-k.invariant.2 ∙ ap₂ (λ j rest. frames_out p order delay reel j n first ++ rest) all (drop_all k c.args.out.now (omega (arith, all))) ∙ append-nil (frames_out p order delay reel (length c.args.out.now) n first);
+      deck = c.loop-k.invariant.0 ∙ ap (λ j. after_frames p order delay reel j n first) all;
+      out = c.loop-k.invariant.1 ∙ ap₂ (λ j rest. frames_out p order delay reel j n first ++ rest) all (drop_all k c.args.out.now (omega (arith, all))) ∙ append-nil (frames_out p order delay reel (length c.args.out.now) n first);
     }

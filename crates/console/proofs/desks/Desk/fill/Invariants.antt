@@ -1,4 +1,4 @@
-use Rattle.std.proofs.Common.{◌≡◌, ◌++◌, length, drop}
+use Rattle.std.proofs.Common.{◌≡◌, ◌++◌, drop}
 use Rattle.console.proofs.desks.Desk.fill.Given as goal
 use Rattle.console.specs.Desks.{desk_plan}
 use Rattle.patch.specs.Patches.{delay_of, ordered_nodes}
@@ -6,8 +6,7 @@ use Rattle.playing.specs.Work.{after_frames, deck, frames_out}
 
 abbrev pub invariant-loop-k : goal.invariant-loop-k
 invariant-loop-k g l =
-    (length l.tape ≡ 16384)
-    × (deck (g.R.Rack.units l.rack) l.tape
+    (deck (g.R.Rack.units l.rack) l.tape
     ≡ after_frames (desk_plan l.self) (ordered_nodes l.self.patch) (delay_of l.self.patch) (g.L.Reel.tracks l.reel) l.k l.n
     (deck (g.R.Rack.units l.initial.rack) l.initial.tape))
     × (l.out

@@ -1,4 +1,4 @@
-use Rattle.std.proofs.Common.{◌≡◌, ◌<◌, length, get_or, sym, ap, ◌∙◌, ap₂, arith, rules}
+use Rattle.std.proofs.Common.{◌≡◌, ◌<◌, length, get_or, sym, ap, ◌∙◌, ap₂, arith}
 use Rattle.console.proofs.desks.Desk.play_frame.Goals as goal
 use Rattle.console.specs.Desks.{desk_plan}
 use Rattle.patch.specs.Patches.{delay_of, ordered_nodes}
@@ -12,16 +12,13 @@ loop-v-preserved g c =
     let k = c.loop-v.v-index in
     let work = node_work (desk_plan d) (delay_of d.patch) (g.L.Reel.tracks c.args.reel.now) c.args.n in
     let first = deck (g.R.Rack.units c.args.rack.now) c.args.tape.now in
-    let long : length c.play_node.new.tape ≡ 16384 = search rules in
-    let inside : k < length (ordered_nodes d.patch) = omega (arith, c.loop-v-test.true, ap length c.order-v-items.ensures) in (
-      long,
-      c.play_node.ensures ∙ ap₂ work c.loop-v.invariant.1 (ap (λ order. get_or order k 0) c.order-v-items.ensures)
-          ∙ sym (fold_more work first (ordered_nodes d.patch) k 0 inside),
-    )
+    let inside : k < length (ordered_nodes d.patch) = omega (arith, c.loop-v-test.true, ap length c.order-v-items.ensures) in
+    c.play_node.ensures ∙ ap₂ work c.loop-v.invariant (ap (λ order. get_or order k 0) c.order-v-items.ensures)
+    ∙ sym (fold_more work first (ordered_nodes d.patch) k 0 inside)
 
 pub returns : goal.returns
 returns g c =
     let d = c.args.self.now in
-    c.loop-v.invariant.1
+    c.loop-v.invariant
     ∙ ap (λ order. frame_work (desk_plan d) order (delay_of d.patch) (g.L.Reel.tracks c.args.reel.now) c.args.n (deck (g.R.Rack.units c.args.rack.now) c.args.tape.now))
     (take_all c.loop-v.v-index (ordered_nodes d.patch) (omega (arith, c.loop-v-test.false, ap length c.order-v-items.ensures)))

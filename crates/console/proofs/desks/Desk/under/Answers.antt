@@ -1,23 +1,14 @@
-use Rattle.std.proofs.Common.{◌≡◌, ℕ, ◌<◌, ◌≤◌, List, ◌++◌, length, get_or, take, drop, sym, refl, ap, ◌∙◌, subst, ap₂, arith}
-use Rattle.console.proofs.Copies.{copied_front, copied_length, copied_zeros, rules_of}
+use Rattle.std.proofs.Common.{◌≡◌, ◌<◌, get_or, length, pos, sym, refl, ap, ◌∙◌, subst, ap₂, arith}
+use Rattle.console.proofs.Rules.{rules_of}
 use Rattle.console.proofs.desks.Desk.under.Goals as goal
-use Rattle.console.specs.Plans.{no_line}
 use Rattle.patch.specs.Inputs.{Arranges}
-use Rattle.patch.specs.Patches.{delays}
+use Rattle.patch.specs.Placing.{plan_of}
 use Rattle.playing.proofs.Keeping.{in_order}
 use Rattle.session.specs.Sessions.{held}
 use Rattle.session.specs.declared.nodes.Line.{Line}
-use Rattle.std.proofs.lemmas.List.{get_or-take}
 
--- what is copied to the beginning of a row of n
-whole_copy : {X : Type 0} (xs copied row all : List X) (n : ℕ) → length row ≡ n → length all ≤ n → xs ≡ all → copied ≡ xs ++ drop (length xs) row → length copied ≡ n
-whole_copy xs copied row all n l few e c = ap length c ∙ copied_length xs row (omega (arith, ap length e)) ∙ l
-
-front_copy : {X : Type 0} (xs copied row all : List X) (k : ℕ) → xs ≡ all → copied ≡ xs ++ drop (length xs) row → k ≡ length xs → take k copied ≡ all
-front_copy xs copied row all k e c same = ap₂ take same c ∙ copied_front xs (drop (length xs) row) ∙ e
-
-pub copy-requires : goal.copy-requires
-copy-requires g c = let rules = rules_of c.args.session.now _ _ c.requires in omega (arith, ap length c.nodes.ensures, rules.few_nodes)
+abbrev no_line : Line
+no_line = record { start = 0; end = 0; gain = pos 0 }
 
 pub invariant_of-result : goal.invariant_of-result
 invariant_of-result g c =
@@ -25,33 +16,22 @@ invariant_of-result g c =
     let p = (held s).plan in
     let r = c.args.patch in
     let rules = rules_of s _ r c.requires in
-    let nodes = ap length c.nodes-2.ensures in
-    let lines = ap length c.lines-2.ensures in
-    let all : take (length c.lines-2.result.now) c.copy-2.new.row ≡ p.lines =
-    front_copy c.lines.result.now c.copy-2.new.row _ p.lines (length c.lines-2.result.now) c.lines.ensures c.copy-2.ensures (lines ∙ sym (ap length c.lines.ensures)) in
+    let nodes : c.unwrap.result.items ≡ p.nodes = (rw c.unwrap.ensures at c.try_from.ensures).0 ∙ c.nodes.ensures in
+    let lines : c.unwrap-2.result.items ≡ p.lines = (rw c.unwrap-2.ensures at c.try_from-2.ensures).0 ∙ c.lines.ensures in
     record {
-      sizes = (
-        whole_copy c.nodes.result.now c.copy.new.row _ p.nodes 16 refl rules.few_nodes c.nodes.ensures c.copy.ensures,
-        whole_copy c.lines.result.now c.copy-2.new.row _ p.lines 48 refl rules.few_lines c.lines.ensures c.copy-2.ensures,
-        whole_copy c.delays.result.now c.copy-3.new.row _ (delays r) 48 refl (omega (arith, c.requires.each_held, rules.few_lines)) c.delays.ensures c.copy-3.ensures,
-        omega (arith, nodes, rules.few_nodes),
-        omega (arith, lines, rules.few_lines),
-      );
+      few = (omega (arith, ap length nodes, rules.few_nodes), omega (arith, ap length lines, rules.few_lines));
       starts = λ i l.
-          subst (λ (x : Line). x.start < 16)
-          (ap (λ xs. get_or xs i no_line) (sym all) ∙ get_or-take (length c.lines-2.result.now) c.copy-2.new.row i no_line l)
-          (omega (arith, rules.starts i (omega (arith, lines)), rules.few_nodes));
-      delayed = λ i. ap (λ xs. get_or xs i 0) c.copy-3.ensures ∙ copied_zeros c.delays.result.now (length c.delays.result.now) 48 i ∙ ap (λ xs. get_or xs i 0) c.delays.ensures;
-      ordered = λ k l. omega (arith, nodes, ((in_order p _ r rules c.requires).once k l).0);
-      arranged = ∣ subst (λ xs. Arranges xs r.inputs) (sym all) c.requires.arranged ∣₁;
+          subst (λ xs. (get_or xs i no_line).start < 16) (sym lines)
+          (omega (arith, rules.starts i (omega (arith, ap length lines)), rules.few_nodes));
+      held = omega (arith, c.requires.each_held, ap length lines);
+      ordered = λ k l. omega (arith, ap length nodes, ((in_order p _ r rules c.requires).once k l).0);
+      arranged = ∣ subst (λ xs. Arranges xs r.inputs) (sym lines) c.requires.arranged ∣₁;
     }
 
 pub returns : goal.returns
-returns g c =
-    let p = (held c.args.session.now).plan in
-    record {
-      plan = ap₂ (λ n l. record { nodes = n; lines = l })
-          (front_copy c.nodes.result.now c.copy.new.row _ p.nodes _ c.nodes.ensures c.copy.ensures (ap length (c.nodes-2.ensures ∙ sym c.nodes.ensures)))
-          (front_copy c.lines.result.now c.copy-2.new.row _ p.lines _ c.lines.ensures c.copy-2.ensures (ap length (c.lines-2.ensures ∙ sym c.lines.ensures)));
-      patch = refl;
-    }
+returns g c = record {
+  plan = ap₂ plan_of
+      ((rw c.unwrap.ensures at c.try_from.ensures).0 ∙ c.nodes.ensures)
+      ((rw c.unwrap-2.ensures at c.try_from-2.ensures).0 ∙ c.lines.ensures);
+  patch = refl;
+}
