@@ -1,4 +1,4 @@
-ghost use Rattle.std.specs.Prelude.{◌≡◌, ◌+◌, ◌≤◌, true, false, length, drop, IfSome, MatchOption, Some, None};
+ghost use Rattle.std.specs.Prelude.{◌≡◌, ◌+◌, ◌≤◌, true, false, length, drop, IfSome, MatchOption};
 ghost use Rattle.wave.specs.Parts.{frame_at, frame_count, inside, part_frame, part_frames, sample_of};
 
 use frames::samples::Frame;

@@ -1,10 +1,7 @@
-ghost use Rattle.std.specs.Prelude.{◌≡◌, ◌+◌, ◌*◌, ◌≤◌, true, false, length, drop, IfOk, if◌then◌else◌, Some, None, Ok, Err, MatchResult};
+ghost use Rattle.std.specs.Prelude.{◌≡◌, ◌≤◌, length};
 ghost use Rattle.session.specs.Sessions.{held};
-ghost use Rattle.wave.specs.Bytes.{head_bytes};
-ghost use Rattle.wave.specs.Parts.{frames_in, inside, is_file_length};
 ghost use Rattle.wave.specs.Due.{answered};
-ghost use Rattle.wave.specs.Judged.{first_other, head_fault, part_fault, parts_fault, reel_fault};
-ghost use Rattle.wave.specs.declared.reader.WaveFault.TheVariants.{Outside, Length, Head};
+ghost use Rattle.wave.specs.Judged.{first_other, part_fault, parts_fault, reel_fault};
 
 use crate::parts::TrackPart;
 use crate::writer::head;

@@ -1,7 +1,7 @@
 ghost use Rattle.std.specs.Prelude.{◌≡◌, ◌+◌, ◌*◌, ◌<◌, ◌≤◌, ◌++◌, length, take, drop, if◌then◌else◌, Ok, Err, OnOk, nat_eq};
 ghost use Rattle.session.specs.Sessions.{held};
 ghost use Rattle.wave.specs.Back.{AllFrames, IsFrame, ReadBack};
-ghost use Rattle.wave.specs.Bytes.{file_bytes, four_bytes, frame_bytes, frames_bytes, head_around, head_bytes};
+ghost use Rattle.wave.specs.Bytes.{file_bytes, four_bytes, frame_bytes, frames_bytes, head_bytes};
 ghost use Rattle.wave.specs.Due.{answered};
 ghost use Rattle.wave.specs.Written.{frames_fault, left_in, size_fault, write_fault};
 ghost use Rattle.wave.specs.declared.writer.WriteFault.TheVariants.{BufferLength};
