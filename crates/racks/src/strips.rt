@@ -24,6 +24,7 @@ use units::trim::Trim;
 // A unit under its layers, as a rack of one.
 pub type Strip<U> = Single<Trim<Bypass<U>>>;
 
+// A fir's settings, or those of one that is not set.
 fn fir_settings(kind: Option<Kind>) -> FirSettings
     ensures { taps_of result ≡ taps_by kind }
 {
@@ -36,6 +37,7 @@ fn fir_settings(kind: Option<Kind>) -> FirSettings
     }
 }
 
+// A limit's settings, or those of one that is not set.
 fn limit_settings(kind: Option<Kind>) -> LimitSettings
     ensures lookahead { result.lookahead ≡ lookahead_by kind }
     ensures ceiling { result.ceiling ≡ ceiling_by kind }
@@ -49,6 +51,7 @@ fn limit_settings(kind: Option<Kind>) -> LimitSettings
     }
 }
 
+// A pan's settings, or those of one that is not set.
 fn pan_settings(kind: Option<Kind>) -> PanSettings
     ensures { result.position ≡ position_by kind }
 {
@@ -58,6 +61,7 @@ fn pan_settings(kind: Option<Kind>) -> PanSettings
     }
 }
 
+// A delay's settings, or those of one that is not set.
 fn delay_settings(kind: Option<Kind>) -> DelaySettings
     ensures { result.frames ≡ frames_by kind }
 {
