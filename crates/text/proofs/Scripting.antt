@@ -1,5 +1,5 @@
 -- A text is read just where it is the spelling of a well-formed script.
-use Rattle.std.proofs.Common.{◌≡◌, ℕ, ◌+◌, ◌<◌, ◌≤◌, Bool, true, false, cond, leb, List, [], ◌∷◌, ◌++◌, map, length, Some, None, Ok, Err, codes, if◌then◌else◌, MatchBool, Result, sym, refl, ap, ◌∙◌, subst, ap₂, ⊎_elim, ltb, arith}
+use Rattle.std.proofs.Common.{◌≡◌, ℕ, ◌+◌, ◌<◌, ◌≤◌, Bool, true, false, cond, leb, List, [], ◌∷◌, ◌++◌, map, length, Some, Ok, Err, codes, MatchBool, Result, sym, refl, ap, ◌∙◌, subst, ap₂, ⊎_elim, ltb, arith}
 use Rattle.session.specs.Contents.{Contents, no_contents, ready, with_line, with_node, with_rate}
 use Rattle.session.specs.declared.nodes.Line as links
 use Rattle.session.specs.declared.nodes.Node as nodes
@@ -15,7 +15,7 @@ use Rattle.text.proofs.Lines.{lines_end, lines_more}
 use Rattle.text.proofs.Linewise.{Good, Says, free_line, line_complete, line_sound, same_words}
 use Rattle.text.proofs.Wholes.{TurnRest}
 use Rattle.text.specs.Accepted.{Accepts}
-use Rattle.text.specs.Reading.{GivesOrWants, closed, line_read, lines_read, passes, reading}
+use Rattle.text.specs.Reading.{GivesOrWants, closed, line_read, lines_read, may_want, passes, reading}
 use Rattle.text.specs.Scripts.{AllFit, LinkFits, NodeFits, Script, Setup, SetupFits, WellFormed, after_all, after_setup, bypasses, end_words, line_bytes, link_words, node_words, nodes_words, said, script_words, session_words, sets, setup_words, spelt, trims, with_nodes, with_setups}
 use Rattle.text.specs.Stages.{first_of, is_end, next_stage}
 use Rattle.text.specs.Turning.{Turned}
@@ -277,9 +277,9 @@ scripts_sound text h e = go (leb (length text) 16384) refl e
         )
 
 -- what is accepted, by the definition of reading
-pub accepts : {T : Type 0} (text : List ℕ) (held : Contents) (r : Result T ReadFault) (May : Type 0) → GivesOrWants (λ _. held) r (reading text) May → Accepts r text held
-accepts text held (Ok t) May g = let s = scripts_sound text held g in (s.0, (s.1, s.3, s.2), s.4)
-accepts text held (Err e) May g = λ m s f. ⊎_elim
+pub accepts : {T : Type 0} (text : List ℕ) (held : Contents) (r : Result T ReadFault) → GivesOrWants (λ _. held) r (reading text) (may_want text ≡ true) → Accepts r text held
+accepts text held (Ok t) g = let s = scripts_sound text held g in (s.0, (s.1, s.3, s.2), s.4)
+accepts text held (Err e) g = λ m s f. ⊎_elim
     (λ h. not_ok (sym h ∙ ap reading f.2 ∙ scripts_complete s f.0 (subst (λ z. length z ≤ 16384) f.2 f.1)))
     (λ w. false≢true (sym m ∙ ap wants_memory w.0))
     g
@@ -298,7 +298,7 @@ all_nodes : (ns : List nodes.Node) (c : Contents) → length (after_all with_nod
 all_nodes [] c = omega arith
 all_nodes (n ∷ ns) c = let h = all_nodes ns (with_node c n) in let p = length_push c.nodes n in omega arith
 
-pub ready_said : (s : Script) → WellFormed s → ready (said s) ≡ true
+ready_said : (s : Script) → WellFormed s → ready (said s) ≡ true
 ready_said s f =
     let r : (said s).rate ≡ s.rate = kept (λ c. c.rate) with_line (λ c x. refl) s.lines (with_nodes s) ∙ kept (λ c. c.rate) with_node (λ c x. refl) s.nodes (with_setups s) ∙ kept (λ c. c.rate) after_setup same_rate s.setups (with_rate no_contents s.rate) in
     let n : (said s).nodes ≡ (with_nodes s).nodes = kept (λ c. c.nodes) with_line (λ c x. refl) s.lines (with_nodes s) in
@@ -307,13 +307,6 @@ ready_said s f =
     let many = all_nodes s.nodes (with_setups s) in
     and_from _ _ (ap (ltb 0) r ∙ lt-ltb 0 s.rate (omega arith)) (ap (λ ns. ltb 0 (length ns)) n ∙ lt-ltb 0 (length (with_nodes s).nodes) (omega arith))
 
-pub ready_read : (text : List ℕ) (h : Contents) → reading text ≡ Ok h → ready h ≡ true
-ready_read text h e = let s = scripts_sound text h e in ap ready s.4 ∙ ready_said s.0 s.1
-
--- a text that is not too long is read by its lines
-pub by_lines : (text bytes : List ℕ) → Some bytes ≡ (if leb (length text) 16384 then Some text else None) → reading text ≡ lines_read 1 Head no_contents (split 10 bytes)
-by_lines text bytes h = go (leb (length text) 16384) h
-  where
-    go : (b : Bool) → Some bytes ≡ (if b then Some text else None) → cond b (lines_read 1 Head no_contents (split 10 text)) (Err Long) ≡ lines_read 1 Head no_contents (split 10 bytes)
-    go true e = ap (λ t. lines_read 1 Head no_contents (split 10 t)) (sym (same_Some _ _ e))
-    go false e = absurd (none-some _ (sym e))
+-- so a draft is a session after the lines of a text that is not too long
+pub ready_lines : (text : List ℕ) (d : Contents) → length text ≤ 16384 → lines_read 1 Head no_contents (split 10 text) ≡ Ok d → ready d ≡ true
+ready_lines text d l e = let s = scripts_sound text d (cond-true _ _ _ (le-leb (length text) 16384 l) ∙ e) in ap ready s.4 ∙ ready_said s.0 s.1

@@ -99,9 +99,21 @@ impl Reader {
     }
 }
 
+// Reads a text that is not too long.
+fn read_short(text: Short<'_>, session: &mut Session, heap: Global) -> Result<(), ReadFault>
+    ensures refused { OnErr result (held session.new ≡ held session.old) }
+    ensures wants { GivesOrWants (λ _. contents (held session.new)) result (lines_read 1 Head no_contents (split 10 text.entry.bytes.now)) (some_held 1 Head no_contents (split 10 text.entry.bytes.now) ≡ true) }
+{
+    let mut reader = Reader::new(heap);
+    reader.read_lines(text)?;
+    *session = reader.draft.finish(heap);
+    Ok(())
+}
+
 // Reads a session text. The session then holds what the text says; where the text is refused or memory lacks, it is the
 // empty session. The texts that are accepted are the spellings of well-formed scripts. Memory is wanted only where the
 // lines are all right up to the first node's.
+#[tactic(auto, using(crate::proofs::Scripting::accepts))]
 pub fn read(text: &[u8], session: &mut Session, heap: Global) -> Result<(), ReadFault>
     ensures refused { OnErr result (held session.new ≡ nothing) }
     ensures wants { GivesOrWants (λ _. contents (held session.new)) result (reading text.now) (may_want text.now ≡ true) }
@@ -111,8 +123,5 @@ pub fn read(text: &[u8], session: &mut Session, heap: Global) -> Result<(), Read
     let Some(text) = Short::new(text) else {
         return Err(ReadFault::Long);
     };
-    let mut reader = Reader::new(heap);
-    reader.read_lines(text)?;
-    *session = reader.draft.finish(heap);
-    Ok(())
+    read_short(text, session, heap)
 }
