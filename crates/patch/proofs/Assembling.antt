@@ -62,13 +62,13 @@ sweep_of_plan kind p rules placed order is values along v l =
     (λ i b e. sym (get_or-take (length order) values (line p i).start kind.start (omega (arith, rules.starts i b)))))
 
 module _ (p : Plan) (rack : List (Meaning Frame)) (r : Patch) (units : List ℕ) (rules : KeepsRules p) (laws : RackLaws rack)
-    (clear : due p rack ≡ None) (in_order : ordered_nodes r ≡ order_of p) (lines_are : r.lines ≡ length p.lines)
+    (clear : due p rack ≡ None) (in_order : ordered_nodes r ≡ order_of p) (lines_are : length r.held.items ≡ length p.lines)
     (arranged : Arranges p.lines r.inputs)
     (each : (v : ℕ) → v < length p.nodes → get_or units v 0 ≡ unit_late rack (node p v).unit)
     (late-along : SweptTo (lateness_kind units) p.lines (ordered_nodes r) (length (ordered_nodes r)) (by_node (lateness_kind units) r.late))
     (fed_along : SweptTo feeders_kind p.lines (ordered_nodes r) (length (ordered_nodes r)) (by_node feeders_kind r.fed))
     (held-are : (i : ℕ) → i < length p.lines
-    → get_or r.held i 0 ≡ (get_or r.late (line p i).end 0 - get_or units (line p i).end 0) - get_or r.late (line p i).start 0) where
+    → get_or r.held.items i 0 ≡ (get_or r.late (line p i).end 0 - get_or units (line p i).end 0) - get_or r.late (line p i).start 0) where
   placed : Placed p
   placed = all_placed p rack clear
 
@@ -90,7 +90,6 @@ module _ (p : Plan) (rack : List (Meaning Frame)) (r : Patch) (units : List ℕ)
   held_is i b =
       omega (
         arith,
-        get_or-take r.lines r.held i 0 (omega (arith, lines_are)),
         held-are i b,
         late_at (line p i).end (rules.ends i b),
         late_at (line p i).start (rules.starts i b),
@@ -110,7 +109,7 @@ module _ (p : Plan) (rack : List (Meaning Frame)) (r : Patch) (units : List ℕ)
     ordered = ordered;
     each_late = length-take-le (length (ordered_nodes r)) r.late (omega (arith, count, rules.few_nodes, r.full.0)) ∙ count;
     each_fed = length-take-le (length (ordered_nodes r)) r.fed (omega (arith, count, rules.few_nodes, r.full.1)) ∙ count;
-    each_held = length-take-le r.lines r.held (omega (arith, r.full.2, r.full.3)) ∙ lines_are;
+    each_held = lines_are;
     arranged = arranged;
     late = late_is;
     held = held_is;

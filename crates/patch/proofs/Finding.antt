@@ -1,8 +1,9 @@
 -- The first number that passes a test.
-use Rattle.std.proofs.Common.{◌≡◌, ℕ, zero, suc, ◌+◌, ◌<◌, ◌≤◌, Bool, true, false, Some, None, Option, sym, refl, ap, ◌∙◌, inl, inr, arith}
+use Rattle.std.proofs.Common.{◌≡◌, ℕ, zero, suc, ◌+◌, ◌<◌, ◌≤◌, Bool, true, false, cond, List, [], ◌∷◌, length, get_or, Some, None, Option, sym, refl, ap, ap₂, ◌∙◌, inl, inr, arith}
 use Rattle.patch.specs.Placing.{first_of, lowest}
 use Rattle.std.proofs.lemmas.Bool.{cases_eq, cond_both, cond-false, cond-true}
-use Rattle.std.specs.List.{range_with_len}
+use Rattle.std.proofs.lemmas.Iterator.Adapters.{position_from-zero}
+use Rattle.std.specs.List.{position, position_from, range_with_len}
 
 first_none : (test : ℕ → Bool) (a n : ℕ) → ((w : ℕ) → w < a + n → test w ≡ false) → first_of test (range_with_len a n) ≡ None
 first_none test a zero h = refl
@@ -25,6 +26,18 @@ lowest_none test n h = first_none test 0 n (λ w l. h w (omega arith))
 
 pub lowest_some : (test : ℕ → Bool) (n v : ℕ) → v < n → test v ≡ true → ((w : ℕ) → w < v → test w ≡ false) → lowest test n ≡ Some v
 lowest_some test n v b t h = first_some test 0 n v (omega arith) (omega arith) t h
+
+-- The position of the first item that passes is the lowest number whose item does.
+from_position : {X : Type 0} (test : X → Bool) (d : X) (f : ℕ → Bool) (xs : List X) (i : ℕ)
+    → ((v : ℕ) → v < length xs → test (get_or xs v d) ≡ f (i + v)) → position_from test i xs ≡ first_of f (range_with_len i (length xs))
+from_position test d f [] i same = refl
+from_position test d f (x ∷ xs) i same =
+    ap₂ (λ b o. cond b (Some i) o) (same 0 (omega arith) ∙ ap f (omega arith))
+    (from_position test d f xs (i + 1) (λ v l. same (suc v) (omega arith) ∙ ap f (omega arith)))
+
+pub position_is_lowest : {X : Type 0} (test : X → Bool) (d : X) (f : ℕ → Bool) (xs : List X)
+    → ((v : ℕ) → v < length xs → test (get_or xs v d) ≡ f v) → position test xs ≡ lowest f (length xs)
+position_is_lowest test d f xs same = position_from-zero test xs ∙ from_position test d f xs 0 (λ v l. same v l ∙ ap f (omega arith))
 
 -- What a lowest number tells.
 data Tells (test : ℕ → Bool) (a b : ℕ) : Option ℕ → Type 0 where

@@ -13,15 +13,6 @@ abbrev pub joined_to : {X : Type 0} → (X → X → X) → Option X → X → X
 joined_to join None y = y
 joined_to join (Some x) y = join x y
 
--- What is joined in the end.
-abbrev pub or_start : {X : Type 0} → X → Option X → X
-or_start first None = first
-or_start first (Some x) = x
-
-pub joined_in_all : {X : Type 0} (kind : Kind X) (xs : List X) → joined kind xs ≡ or_start kind.start (collected kind.join xs)
-joined_in_all kind [] = refl
-joined_in_all kind (x ∷ xs) = refl
-
 -- A node hears the same from starts that have the same values.
 pub swept_same : {X : Type 0} (kind : Kind X) (p : Plan) (a b : ℕ → X) (v : ℕ)
     → EachInto p v (λ i. a (line p i).start ≡ b (line p i).start) → swept kind p a v ≡ swept kind p b v

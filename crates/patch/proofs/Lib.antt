@@ -10,4 +10,5 @@ pub mod Linking
 pub mod Placed
 pub mod Standing
 pub mod Sweeping
+pub mod Walking
 pub mod Working

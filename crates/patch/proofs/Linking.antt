@@ -7,8 +7,8 @@ use Rattle.patch.specs.declared.inputs.Inputs.{Inputs}
 use Rattle.session.specs.Plan.{Plan, line}
 use Rattle.session.specs.declared.nodes.Line.{Line}
 use Rattle.std.proofs.ByRecursion.{All-weaker}
-use Rattle.std.proofs.lemmas.List.{get_or-replicate, get_or-set_other, get_or-set_same}
-use Rattle.std.proofs.lemmas.Bool.{cases_eq, cond_both, eqb-false, eqb-true}
+use Rattle.std.proofs.lemmas.List.{get_or_past, get_or-replicate, get_or-set_other, get_or-set_same}
+use Rattle.std.proofs.lemmas.Bool.{cases_eq, cases_lt, cond_both, eqb-false, eqb-true}
 use Rattle.std.specs.List.{range_with_len, AllByRecursion}
 
 absurd_some : {A P : Type 0} (x : A) → Some x ≡ None → P
@@ -33,11 +33,11 @@ abbrev pub at_number : List (Option ℕ) → ℕ → Option ℕ
 at_number next i = get_or next i None
 
 -- A number below all others may name another.
-links_other : (next : List (Option ℕ)) (i : ℕ) (x at : Option ℕ) (js : List ℕ) → AllByRecursion (λ j. i < j) js → Links (at_number next) at js → Links (at_number (set next i x)) at js
+links_other : (next : List (Option ℕ)) (i : ℕ) (x at : Option ℕ) (js : List ℕ) → AllByRecursion (λ j. (i < j) × (j < 48)) js → Links (at_number next) at js → Links (at_number (set next i x)) at js
 links_other next i x at [] all h = h
 links_other next i x at (j ∷ js) all h = (
   h.0,
-  subst (λ k. Links (at_number (set next i x)) k js) (sym (get_or-set_other next i j x None (λ e. omega (arith, all.0))))
+  subst (λ k. Links (at_number (set next i x)) k js) (sym (get_or-set_other next i j x None (λ e. omega (arith, all.0.0))))
       (links_other next i x (get_or next j None) js all.1 h.1),
 )
 
@@ -45,12 +45,13 @@ links_other next i x at (j ∷ js) all h = (
 abbrev pub last_lines : Plan → ℕ → ℕ → ℕ → List ℕ
 last_lines p v i m = filter (λ j. eqb (line p j).end v) (range_with_len i m)
 
-from_first : (test : ℕ → Bool) (a m : ℕ) → AllByRecursion (λ j. a ≤ j) (filter test (range_with_len a m))
+from_first : (test : ℕ → Bool) (a m : ℕ) → AllByRecursion (λ j. (a ≤ j) × (j < a + m)) (filter test (range_with_len a m))
 from_first test a zero = tt
 from_first test a (suc m) =
-    let rest = All-weaker (λ j. a + 1 ≤ j) (λ j. a ≤ j) (λ j h. omega arith) (filter test (range_with_len (a + 1) m)) (from_first test (a + 1) m) in
-    cond_both (test a) (a ∷ filter test (range_with_len (a + 1) m)) (filter test (range_with_len (a + 1) m)) (AllByRecursion (λ j. a ≤ j))
-    (λ _. (omega arith, rest)) (λ _. rest)
+    let rest = All-weaker (λ j. (a + 1 ≤ j) × (j < a + 1 + m)) (λ j. (a ≤ j) × (j < a + suc m)) (λ j h. (omega (arith, h.0), omega (arith, h.1)))
+    (filter test (range_with_len (a + 1) m)) (from_first test (a + 1) m) in
+    cond_both (test a) (a ∷ filter test (range_with_len (a + 1) m)) (filter test (range_with_len (a + 1) m)) (AllByRecursion (λ j. (a ≤ j) × (j < a + suc m)))
+    (λ _. ((omega arith, omega arith), rest)) (λ _. rest)
 
 -- All lines from line i on are linked.
 abbrev pub Linked : List Line → List (Option ℕ) → List (Option ℕ) → ℕ → Type 0
@@ -58,6 +59,9 @@ Linked lines first next i = (v : ℕ) → v < 16 → Links (at_number next) (get
 
 abbrev pub Rising : List (Option ℕ) → Type 0
 Rising next = (i j : ℕ) → i < 48 → get_or next i None ≡ Some j → i < j
+
+abbrev pub Rises : List (Option ℕ) → Type 0
+Rises next = (i j : ℕ) → get_or next i None ≡ Some j → (i < j) × (j < 48)
 
 module _ (lines : List Line) (fit : Fit lines) (first next : List (Option ℕ)) (i : ℕ) (inside : i < length lines)
     (sixteen : length first ≡ 16) (most : length next ≡ 48) (linked : Linked lines first next (i + 1)) where
@@ -70,24 +74,25 @@ module _ (lines : List Line) (fit : Fit lines) (first next : List (Option ℕ)) 
       let one : length lines - i ≡ suc (length lines - (i + 1)) = omega arith in
       ap (last_lines (plan_of [] lines) v i) one
 
-  above : (v : ℕ) → AllByRecursion (λ j. i < j) (last_lines (plan_of [] lines) v (i + 1) (length lines - (i + 1)))
+  above : (v : ℕ) → AllByRecursion (λ j. (i < j) × (j < 48)) (last_lines (plan_of [] lines) v (i + 1) (length lines - (i + 1)))
   above v =
-      All-weaker (λ j. i + 1 ≤ j) (λ j. i < j) (λ j h. omega arith) (last_lines (plan_of [] lines) v (i + 1) (length lines - (i + 1)))
+      All-weaker (λ j. (i + 1 ≤ j) × (j < i + 1 + (length lines - (i + 1)))) (λ j. (i < j) × (j < 48)) (λ j h. (omega (arith, h.0), omega (arith, h.1, fit.few)))
+      (last_lines (plan_of [] lines) v (i + 1) (length lines - (i + 1)))
       (from_first (λ j. eqb (line (plan_of [] lines) j).end v) (i + 1) (length lines - (i + 1)))
 
-  pub rises_on : Rising next → Rising (set next i (get_or first (line (plan_of [] lines) i).end None))
-  rises_on rising j k l e =
+  pub rises_on : Rises next → Rises (set next i (get_or first (line (plan_of [] lines) i).end None))
+  rises_on rises j k e =
       elim (cases_eq i j) [
         | inl same ↦
             let here : get_or first (line (plan_of [] lines) i).end None ≡ Some k =
             sym (get_or-set_same next i (get_or first (line (plan_of [] lines) i).end None) None (omega (arith, fit.few)))
             ∙ (ap (λ j. get_or (set next i (get_or first (line (plan_of [] lines) i).end None)) j None) same ∙ e) in
-            let on = links_on (at_number next) (λ j. i < j) k (last_lines (plan_of [] lines) (line (plan_of [] lines) i).end (i + 1) (length lines - (i + 1)))
+            let on = links_on (at_number next) (λ j. (i < j) × (j < 48)) k (last_lines (plan_of [] lines) (line (plan_of [] lines) i).end (i + 1) (length lines - (i + 1)))
             (subst (λ at. Links (at_number next) at (last_lines (plan_of [] lines) (line (plan_of [] lines) i).end (i + 1) (length lines - (i + 1)))) here
             (linked (line (plan_of [] lines) i).end (fit.ends i inside)))
             (above (line (plan_of [] lines) i).end) in
-            omega (arith, on.3)
-        | inr ne ↦ rising j k l (sym (get_or-set_other next i j (get_or first (line (plan_of [] lines) i).end None) None (λ e. ne (sym e))) ∙ e)
+            (omega (arith, on.3.0), on.3.1)
+        | inr ne ↦ rises j k (sym (get_or-set_other next i j (get_or first (line (plan_of [] lines) i).end None) None (λ e. ne (sym e))) ∙ e)
       ]
 
   pub links_more : Linked lines (set first (line (plan_of [] lines) i).end (Some i)) (set next i (get_or first (line (plan_of [] lines) i).end None)) i
@@ -115,18 +120,21 @@ none_linked lines v b =
     subst (λ m. Links (at_number (replicate 48 None)) (get_or (replicate 16 None) v None) (last_lines (plan_of [] lines) v (length lines) m)) (sym none)
     (get_or-replicate 16 v None None b)
 
-pub none_rises : Rising (replicate 48 None)
-none_rises i j l e = absurd_some j (sym e ∙ get_or-replicate 48 i None None l)
+pub none_rises : Rises (replicate 48 None)
+none_rises i j e =
+    elim (cases_lt i 48) [
+      | inl l ↦ absurd_some j (sym e ∙ get_or-replicate 48 i None None l)
+      | inr l ↦ absurd_some j (sym e ∙ get_or_past (replicate 48 None) i None l)
+    ]
 
 -- At last all lines are.
-pub all_linked : (lines : List Line) (r : Inputs) → length r.first ≡ 16 → length r.next ≡ 48 → Linked lines r.first r.next 0
-    → Rising r.next → Arranges lines r
-all_linked lines r sixteen most linked rising =
+pub all_linked : (lines : List Line) (r : Inputs) → length r.first ≡ 16 → length r.next ≡ 48 → Linked lines r.first r.next 0 → Arranges lines r
+all_linked lines r sixteen most linked =
     let whole : length lines - 0 ≡ length lines = omega arith in
     record {
       sixteen = sixteen;
       most = most;
       linked = λ v b.
           subst (λ m. Links (next_after r) (first_into r v) (last_lines (plan_of [] lines) v 0 m)) whole (linked v b);
-      rising = rising;
+      rising = λ i j l e. (r.rises i j e).0;
     }

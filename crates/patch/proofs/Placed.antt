@@ -19,7 +19,7 @@ pub record Sound (p : Plan) (order : List ℕ) : Type 0 where
   pub once : (k : ℕ) → k < length order → place_in order (get_or order k 0) ≡ k
   pub counted : standing order (length p.nodes) ≡ length order
 
-sound_none : (p : Plan) → Sound p []
+pub sound_none : (p : Plan) → Sound p []
 sound_none p = record {
   declared = λ v h. absurd (false≢true h);
   before = λ i b h. absurd (false≢true h);
@@ -66,13 +66,17 @@ module _ (p : Plan) (order : List ℕ) (v : ℕ) (s : Sound p order) (inside : v
             ∙ (place_old order v (get_or order k 0) (inside_stands order (get_or order k 0) (omega (arith, s.once k b))) ∙ s.once k b)
       ]
 
-  sound_push : Sound p (order ++ v ∷ [])
+  pub sound_push : Sound p (order ++ v ∷ [])
   sound_push = record {
     declared = push_declared;
     before = push_before;
     once = push_once;
     counted = omega (arith, standing_push order v (length p.nodes) inside new, length_push order v, s.counted);
   }
+
+  -- Where one more can follow, there is room for it.
+  pub room : length order < length p.nodes
+  room = omega (arith, sound_push.counted, length_push order v, standing_most (order ++ v ∷ []) (length p.nodes))
 
 module _ (p : Plan) where
   grown_sound : (m : ℕ) (order : List ℕ) → Sound p order → Sound p (grown p m order)

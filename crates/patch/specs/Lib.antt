@@ -9,4 +9,7 @@ pub mod Orders
 pub mod Ours
 pub mod Patches
 pub mod Placing
+pub mod Props
 pub mod Sweeps
+pub mod Walks
+pub mod Wirings

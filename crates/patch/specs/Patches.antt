@@ -13,7 +13,7 @@ abbrev pub feeder_sets : Patch → List ℕ
 feeder_sets r = take (length (ordered_nodes r)) r.fed
 
 abbrev pub delays : Patch → List ℕ
-delays r = take r.lines r.held
+delays r = r.held.items
 
 -- By number of the node or the line.
 abbrev pub late_of : Patch → ℕ → ℕ

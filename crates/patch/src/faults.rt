@@ -1,7 +1,7 @@
 pub mod told;
 
 // Why there is no patch, or no answer about a node.
-#[derive(Clone, Copy, Debug)]
+#[derive(Clone, Copy, PartialEq, Eq, Debug)]
 pub enum PatchFault {
     NoNode,
     NoUnit(usize),

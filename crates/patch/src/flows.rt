@@ -25,7 +25,7 @@ impl Flow for Latenesses {
     }
 
     fn step(&self, v: u8, x: u16) -> u16 {
-        x.saturating_add(u16::from(self.units[v as usize]))
+        x.saturating_add(u16::from(self.units[usize::from(v)]))
     }
 }
 

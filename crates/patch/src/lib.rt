@@ -4,8 +4,8 @@
 pub mod faults;
 mod flows;
 pub mod inputs;
-mod making;
 pub mod orders;
 pub mod patches;
 mod sweeps;
 pub mod theorems;
+mod wirings;

@@ -1,7 +1,8 @@
-ghost use Rattle.std.specs.Prelude.{◌≡◌, ◌≤◌, length};
+ghost use Rattle.std.specs.Prelude.{◌≡◌, length};
 
 use crate::inputs::Inputs;
 use crate::orders::Order;
+use arrayvec::ArrayVec;
 
 mod made;
 pub mod ours;
@@ -13,8 +14,7 @@ pub struct Patch {
     order: Order,
     late: [u16; 16],
     fed: [u16; 16],
-    held: [u16; 48],
-    lines: usize,
+    held: ArrayVec<u16, 48>,
     inputs: Inputs,
-    ghost full: { (length late ≡ 16) × (length fed ≡ 16) × (length held ≡ 48) × (lines ≤ 48) },
+    ghost full: { (length late ≡ 16) × (length fed ≡ 16) },
 }

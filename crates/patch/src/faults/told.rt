@@ -13,11 +13,6 @@ impl Fault for PatchFault {
             PatchFault::Unplaced(node) => (21, node),
             PatchFault::NotDeclared(node) => (25, node),
         };
-        Refusal {
-            number,
-            layer: Layer::Patch,
-            first,
-            second: 0,
-        }
+        Refusal::new(number, Layer::Patch, first, 0)
     }
 }

@@ -22,8 +22,8 @@ pub(crate) fn arrange(lines: &[Line]) -> Inputs
 {
     let mut first = [None; 16];
     let mut next = [None; 48];
-    for i in (0..lines.len()).rev() {
-        let end = lines[i].end as usize;
+    for (i, line) in lines.iter().enumerate().rev() {
+        let end = usize::from(line.end);
         next[i] = first[end];
         first[end] = Some(i as u8);
     }

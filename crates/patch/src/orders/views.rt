@@ -1,8 +1,15 @@
-ghost use Rattle.std.specs.Prelude.{◌≡◌, ◌<◌, ◌≤◌, not, [], ◌∷◌, ◌++◌, length};
+ghost use Rattle.std.specs.Prelude.{◌≡◌, ◌<◌, ◌≤◌, not, [], ◌∷◌, ◌++◌, length, position};
 ghost use Rattle.patch.specs.Orders.{listed};
 ghost use Rattle.patch.specs.Placing.{lowest, stands};
 
 use crate::orders::Order;
+use arrayvec::ArrayVec;
+
+fn first_free(placed: &[bool]) -> Option<usize>
+    ensures { result ≡ position not placed.now }
+{
+    placed.iter().position(|placed| !*placed)
+}
 
 impl Order {
     // Nothing is placed.
@@ -10,8 +17,7 @@ impl Order {
         ensures { listed result ≡ [] }
     {
         Order {
-            nodes: [0; 16],
-            count: 0,
+            nodes: ArrayVec::new(),
             placed: [false; 16],
         }
     }
@@ -20,13 +26,14 @@ impl Order {
     pub fn nodes(&self) -> &[u8]
         ensures { result.now ≡ listed self.now }
     {
-        &self.nodes[0..self.count]
+        self.nodes.as_slice()
     }
 
     pub(crate) fn len(&self) -> usize
-        ensures { result ≡ length (listed self.now) }
+        ensures value { result ≡ length (listed self.now) }
+        ensures fits { result ≤ 16 }
     {
-        self.count
+        self.nodes.len()
     }
 
     pub(crate) fn has(&self, v: usize) -> bool
@@ -41,12 +48,7 @@ impl Order {
         requires { nodes ≤ 16 }
         ensures { result ≡ lowest (λ v. not (stands (listed self.now) v)) nodes }
     {
-        for v in 0..nodes {
-            if !self.has(v) {
-                return Some(v);
-            }
-        }
-        None
+        first_free(&self.placed[..nodes])
     }
 
     pub(crate) fn push(&mut self, v: u8)
@@ -54,8 +56,7 @@ impl Order {
         requires room { length (listed self.old) < 16 }
         ensures { listed self.new ≡ listed self.old ++ v ∷ [] }
     {
-        self.nodes[self.count] = v;
-        self.placed[v as usize] = true;
-        self.count += 1;
+        self.nodes.push(v);
+        self.placed[usize::from(v)] = true;
     }
 }

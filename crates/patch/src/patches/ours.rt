@@ -5,7 +5,8 @@ ghost use Rattle.session.specs.Sessions.{held};
 
 use crate::faults::PatchFault;
 use crate::patches::Patch;
-use crate::patches::made::{sessions_order, sessions_patch};
+use crate::patches::made::{order_of, patch_along};
+use crate::wirings::Wiring;
 use racks::interface::Rack;
 use session::sessions::Session;
 
@@ -13,9 +14,7 @@ use session::sessions::Session;
 pub fn our_patch<R: Rack>(session: &Session, rack: &R) -> Result<Patch, PatchFault>
     ensures { MatchResult result (λ patch. OurPatch (held session.now).plan (R.Rack.units rack.now) patch) (λ fault. due (held session.now).plan (R.Rack.units rack.now) ≡ Some fault) }
 {
-    if session.nodes().is_empty() {
-        return Err(PatchFault::NoNode);
-    }
-    let order = sessions_order(session, rack.count())?;
-    Ok(sessions_patch(session, rack, order))
+    let wiring = Wiring::of(session).ok_or(PatchFault::NoNode)?;
+    let order = order_of(&wiring, rack.count())?;
+    Ok(patch_along(wiring, rack, order))
 }

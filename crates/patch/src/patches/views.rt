@@ -8,6 +8,7 @@ use crate::inputs::Inputs;
 use crate::inputs::arranging::no_inputs;
 use crate::orders::Order;
 use crate::patches::Patch;
+use arrayvec::ArrayVec;
 
 impl Patch {
     // The patch without nodes and lines.
@@ -20,8 +21,7 @@ impl Patch {
             order: Order::empty(),
             late: [0; 16],
             fed: [0; 16],
-            held: [0; 48],
-            lines: 0,
+            held: ArrayVec::new(),
             inputs: no_inputs(),
         }
     }
@@ -37,21 +37,21 @@ impl Patch {
     pub fn latenesses(&self) -> &[u16]
         ensures { result.now ≡ latenesses self.now }
     {
-        &self.late[0..self.order.len()]
+        &self.late[..self.order.len()]
     }
 
     // The nodes that feed each node, itself included: bit v for node v.
     pub fn feeder_sets(&self) -> &[u16]
         ensures { result.now ≡ feeder_sets self.now }
     {
-        &self.fed[0..self.order.len()]
+        &self.fed[..self.order.len()]
     }
 
     // How many frames each line is held.
     pub fn delays(&self) -> &[u16]
         ensures { result.now ≡ delays self.now }
     {
-        &self.held[0..self.lines]
+        self.held.as_slice()
     }
 
     // The lines by their ends.
@@ -79,23 +79,15 @@ impl Patch {
     pub fn lateness(&self, v: usize) -> Result<u16, PatchFault>
         ensures { result ≡ (if nat_lt v (length (latenesses self.now)) then Ok (late_of self.now v) else Err (NotDeclared v)) }
     {
-        let late = self.latenesses();
-        if v < late.len() {
-            Ok(late[v])
-        } else {
-            Err(PatchFault::NotDeclared(v))
-        }
+        let late = self.latenesses().get(v).copied();
+        late.ok_or(PatchFault::NotDeclared(v))
     }
 
     // The nodes that feed a node, itself included.
     pub fn feeders(&self, v: usize) -> Result<u16, PatchFault>
         ensures { result ≡ (if nat_lt v (length (feeder_sets self.now)) then Ok (feeders_of self.now v) else Err (NotDeclared v)) }
     {
-        let fed = self.feeder_sets();
-        if v < fed.len() {
-            Ok(fed[v])
-        } else {
-            Err(PatchFault::NotDeclared(v))
-        }
+        let fed = self.feeder_sets().get(v).copied();
+        fed.ok_or(PatchFault::NotDeclared(v))
     }
 }

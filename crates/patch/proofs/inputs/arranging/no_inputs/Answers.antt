@@ -1,6 +1,9 @@
-use Rattle.std.proofs.Common.{[], replicate, None, refl}
+use Rattle.std.proofs.Common.{[], refl}
 use Rattle.patch.proofs.Linking.{all_linked, none_linked, none_rises}
 use Rattle.patch.proofs.inputs.arranging.no_inputs.Goals as goal
 
 pub returns : goal.returns
-returns c = all_linked [] (record { first = replicate 16 None; next = replicate 48 None }) refl refl (none_linked []) none_rises
+returns c = all_linked [] _ refl refl (none_linked [])
+
+pub invariant_of-result : goal.invariant_of-result
+invariant_of-result c = record { rises = none_rises }
