@@ -253,7 +253,7 @@ mod tests {
     };
 
     // The number and the place of a refusal, or 0 and the answer.
-    fn answered<F: Fault>(answer: Result<u16, F>) -> (u8, usize) {
+    fn answered<F: Fault + Drop>(answer: Result<u16, F>) -> (u8, usize) {
         match answer {
             Ok(found) => (0, usize::from(found)),
             Err(fault) => {
