@@ -14,7 +14,7 @@ pub enum PlayFault {
 }
 
 // Why a call on the console is refused: by the patch, or at playing.
-#[derive(Clone, Copy, Debug)]
+#[derive(Clone, Copy, PartialEq, Eq, Debug)]
 pub enum ConsoleFault {
     Patch(PatchFault),
     Play(PlayFault),

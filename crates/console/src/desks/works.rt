@@ -71,11 +71,8 @@ impl Desk {
         ensures { AddsUp result (map (brought (desk_plan self.now) (delay_of self.now.patch) (on_tape tape.now) (pos n)) (lines_into (desk_plan self.now) v)) }
     {
         let mut sum = Sum::new();
-        // The links are walked by hand: the patch gives a node's first line in, and after a line the next one.
-        let mut at = self.patch.first_into(usize::from(v));
-        while let Some(i) = at {
+        for i in self.patch.inputs().lines_into(usize::from(v)) {
             let _ = sum.add(self.part(tape, n, i));
-            at = self.patch.next_after(usize::from(i));
         }
         sum
     }
