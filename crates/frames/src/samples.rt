@@ -1,4 +1,4 @@
-ghost use Rattle.std.specs.Prelude.{◌≡◌, ◌*ℤ◌};
+ghost use Rattle.std.specs.Prelude.{◌≡◌, ◌≤◌, ◌*ℤ◌, unsigned_abs};
 ghost use Rattle.frames.specs.Samples.{clamped, divided, DividesDown, scaled};
 
 // A left and a right sample.
@@ -37,9 +37,10 @@ pub fn divide(z: i64) -> i64
     z >> 14
 }
 
-// A sample times a gain.
-fn product(sample: i16, gain: i16) -> i64
-    ensures { result ≡ sample *ℤ gain }
+// A sample times a gain or a tap, exactly.
+pub fn product(sample: i16, gain: i16) -> i64
+    ensures value { result ≡ sample *ℤ gain }
+    ensures bound { unsigned_abs result ≤ 1073741824 }
 {
     i64::from(sample) * i64::from(gain)
 }

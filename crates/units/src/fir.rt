@@ -1,4 +1,4 @@
-ghost use Rattle.std.specs.Prelude.{◌≡◌, ◌-◌, ◌/◌, ◌≤◌, length, ◌*ℤ◌, unsigned_abs};
+ghost use Rattle.std.specs.Prelude.{◌≡◌, ◌-◌, ◌/◌, ◌≤◌, length};
 ghost use Rattle.units.specs.Firs.{fir_is, fir_seen};
 ghost use Rattle.units.specs.Heard.{heard};
 ghost use Rattle.units.specs.Taps.{taps_of, tapped};
@@ -8,20 +8,13 @@ ghost use Rattle.voices.specs.Kinds.{fir_rule, fir_unit};
 use crate::past::Past;
 use crate::ruled::{Rule, Ruled};
 use crate::settings::FirSettings;
-use frames::samples::{Frame, clamp, divide};
+use frames::samples::{Frame, clamp, divide, product};
 
 // The exact sums on the two sides.
 #[derive(Drop)]
 struct Sides {
     left: i64,
     right: i64,
-}
-
-fn product(tap: i16, sample: i16) -> i64
-    ensures value { result ≡ tap *ℤ sample }
-    ensures bound { unsigned_abs result ≤ 1073741824 }
-{
-    i64::from(tap) * i64::from(sample)
 }
 
 // A unit that adds up the newest frames, each times its tap.
