@@ -2,6 +2,7 @@ ghost use Rattle.std.specs.Prelude.{◌≡◌, ℕ, ◌<◌, ◌≤◌, length, 
 ghost use Rattle.patch.specs.Inputs.{Arranges};
 ghost use Rattle.patch.specs.Patches.{delays, ordered_nodes};
 ghost use Rattle.patch.specs.Placing.{plan_of};
+ghost use Rattle.patch.specs.Props.{arranges_prop};
 ghost use Rattle.session.specs.Plan.{line};
 
 use arrayvec::ArrayVec;
@@ -27,5 +28,5 @@ pub struct Desk {
     ghost starts: { (i : ℕ) → i < length lines.items → (line (plan_of nodes.items lines.items) i).start < 16 },
     ghost held: { length (delays patch) ≡ length lines.items },
     ghost ordered: { (k : ℕ) → k < length (ordered_nodes patch) → slice_index (ordered_nodes patch) k < length nodes.items },
-    ghost arranged: { ∥ Arranges lines.items patch.inputs ∥₁ },
+    ghost arranged: { Arranges lines.items patch.inputs } by { arranges_prop lines.items patch.inputs },
 }

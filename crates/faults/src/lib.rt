@@ -9,7 +9,7 @@ use wave::writer::WriteFault;
 use words::faults::ReadFault;
 
 // Why there is no mix: the text, the tracks, the console or the writer refuses.
-#[derive(Clone, Copy)]
+#[derive(Clone, Copy, PartialEq, Eq, Debug)]
 pub enum MixFault {
     Text(ReadFault),
     Wave(WaveFault),

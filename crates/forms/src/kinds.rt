@@ -56,6 +56,7 @@ fn limit(words: &mut Words<'_>) -> Result<LimitSettings, ReadFault>
     })
 }
 
+// A pan and a delay differ in their settings' type, word and range, which a function over both would be handed one by one.
 fn pan(words: &mut Words<'_>) -> Result<PanSettings, ReadFault>
     ensures { paired (λ s. pan s.position) result (cursor words.new) ≡ pan_form (cursor words.old) }
 {

@@ -1,7 +1,6 @@
 -- What a node has heard, and what it has yet to hear.
 use Rattle.std.proofs.Common.{◌≡◌, ℕ, ◌-◌, ◌<◌, List, [], map, length, get_or, Some, None, Option, sym, refl, subst, arith}
 use Rattle.patch.proofs.Joining.{collected, collected_from, from_none}
-use Rattle.patch.proofs.Linking.{Rising}
 use Rattle.patch.specs.Placing.{plan_of}
 use Rattle.patch.specs.Sweeps.{Kind, by_node}
 use Rattle.session.specs.Plan.{line, lines_into}
@@ -12,18 +11,6 @@ use Rattle.std.specs.List.{AllByRecursion}
 -- The value at line i's start.
 abbrev pub value_at : {X : Type 0} → Kind X → List Line → List X → ℕ → X
 value_at kind lines values i = by_node kind values (line (plan_of [] lines) i).start
-
--- How many numbers are left above the one at hand.
-abbrev pub left_from : Option ℕ → ℕ
-left_from None = 0
-left_from (Some i) = 48 - i
-
-pub left_falls : (next : List (Option ℕ)) (i : ℕ) → Rising next → i < 48 → left_from (get_or next i None) < 48 - i
-left_falls next i rising l = go (get_or next i None) refl
-  where
-    go : (at : Option ℕ) → get_or next i None ≡ at → left_from at < 48 - i
-    go None e = omega arith
-    go (Some j) e = omega (arith, rising i j l e)
 
 -- The lines into v that are left have values that, joined to what was heard, are those of all lines into v.
 abbrev pub Hearing : {X : Type 0} → Kind X → List Line → List X → ℕ → Option X → List ℕ → Type 0

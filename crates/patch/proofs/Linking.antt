@@ -23,10 +23,6 @@ links_on next P i (j ∷ js) h all =
     let e = same_some i j h.0 in
     (js, ap (λ k. k ∷ js) (sym e), subst (λ k. Links next (next k) js) (sym e) h.1, subst P (sym e) all.0, all.1)
 
-pub links_end : (next : ℕ → Option ℕ) (is : List ℕ) → Links next None is → is ≡ []
-links_end next [] h = refl
-links_end next (j ∷ js) h = absurd (none-some j h.0)
-
 abbrev pub at_number : List (Option ℕ) → ℕ → Option ℕ
 at_number next i = get_or next i None
 
@@ -54,9 +50,6 @@ from_first test a (suc m) =
 -- All lines from line i on are linked.
 abbrev pub Linked : List Line → List (Option ℕ) → List (Option ℕ) → ℕ → Type 0
 Linked lines first next i = (v : ℕ) → v < 16 → Links (at_number next) (get_or first v None) (last_lines (plan_of [] lines) v i (length lines - i))
-
-abbrev pub Rising : List (Option ℕ) → Type 0
-Rising next = (i j : ℕ) → i < 48 → get_or next i None ≡ Some j → i < j
 
 abbrev pub Rises : List (Option ℕ) → Type 0
 Rises next = (i j : ℕ) → get_or next i None ≡ Some j → (i < j) × (j < 48)

@@ -31,7 +31,8 @@ fn begin<R: Rack, L: Reel>(
     })
 }
 
-// Fills a buffer of any length, at most 4,096 frames at a time.
+// Fills a buffer of any length, at most 4,096 frames at a time. Progress is a flag: a closure in its place would have to be
+// said callable by each function that it goes through.
 fn play_all<R: Rack, L: Reel>(
     rt: &HostRuntime,
     console: &mut Console,

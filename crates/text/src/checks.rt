@@ -7,7 +7,7 @@ use words::faults::{Place, ReadFault};
 use words::pieces::Pieces;
 use words::shorts::Short;
 
-// A line has known bytes only, and a 0A ends it; `last` says that none does.
+// A line has known bytes only, and a 0A ends it; `last` says that none does, as the definition of reading takes it.
 pub fn check_bytes(line: Short<'_>, row: usize, last: bool) -> Result<(), ReadFault>
     ensures { result ≡ bytes_check row line.entry.bytes.now last }
 {

@@ -53,7 +53,7 @@ pub struct PanSettings {
 }
 
 impl PanSettings {
-    // None where the position is above 256.
+    // None where the position is above 256. The literal itself asks for the test, so no `then` stands in for the branch.
     pub fn new(position: u16) -> Option<PanSettings>
         ensures { MatchOption result (PanRange position → ⊥) (λ s. s.position ≡ position) }
     {

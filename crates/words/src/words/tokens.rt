@@ -23,6 +23,7 @@ impl<'a> Token<'a> {
         matches!(self.word, Word::Number(bytes) if bytes == b"1".as_slice())
     }
 
+    // Two short matches: a function that hands out a number's bytes would need a definition of its own.
     fn whole(&self) -> Option<u32>
         ensures { result ≡ whole_of (spelt self.now.word) }
     {

@@ -1,7 +1,6 @@
 use Rattle.std.specs.Prelude.{is_ok}
 use Rattle.std.proofs.Common.{◌≡◌, ◌∙◌, ap₂, rules}
 use Rattle.console.proofs.Adding.{adds_all, adds_first, adds_next, is_line}
-use Rattle.console.proofs.Arranging.{by_ends}
 use Rattle.console.proofs.desks.Desk.added.Goals as goal
 use Rattle.console.specs.Desks.{desk_plan}
 use Rattle.patch.proofs.Walking.{walks_lines}
@@ -19,7 +18,7 @@ loop-i-init c =
       adds_first d _ c.args.v c.new-sum.result left
           (same ∙ (c.lines_into-i-items.ensures
           ∙ (ap₂ (λ r v. walk (next_after r) 49 (first_into r v)) c.inputs.ensures c.from.ensures
-          ∙ walks_lines (desk_plan d).lines d.patch.inputs (by_ends d) c.args.v c.requires)))
+          ∙ walks_lines (desk_plan d).lines d.patch.inputs d.arranged c.args.v c.requires)))
           (new.left, new.right, new.lines),
     )
 

@@ -13,5 +13,5 @@ invariant_of-result c =
       starts = λ i l. absurd (none _ i c.new-2.ensures l);
       held = ap length (h.delays) ∙ sym (ap length c.new-2.ensures);
       ordered = λ k l. absurd (none _ k h.order l);
-      arranged = ∣ subst (λ lines. Arranges lines c.empty.result.inputs) (sym c.new-2.ensures) h.inputs ∣₁;
+      arranged = subst (λ lines. Arranges lines c.empty.result.inputs) (sym c.new-2.ensures) h.inputs;
     }

@@ -25,7 +25,7 @@ invariant_of-result g c =
           (omega (arith, rules.starts i (omega (arith, ap length lines)), rules.few_nodes));
       held = omega (arith, c.requires.each_held, ap length lines);
       ordered = λ k l. omega (arith, ap length nodes, ((in_order p _ r rules c.requires).once k l).0);
-      arranged = ∣ subst (λ xs. Arranges xs r.inputs) (sym lines) c.requires.arranged ∣₁;
+      arranged = subst (λ xs. Arranges xs r.inputs) (sym lines) c.requires.arranged;
     }
 
 pub returns : goal.returns
