@@ -1,12 +1,12 @@
 -- Lines, one after the other.
-use Rattle.std.proofs.Common.{◌≡◌, ℕ, ◌+◌, Bool, true, false, cond, not, ◌⊎◌, List, [], ◌∷◌, Ok, Err, Result, sym, refl, ap, ◌∙◌, subst, inl}
+use Rattle.std.proofs.Common.{◌≡◌, ℕ, ◌+◌, Bool, true, false, cond, not, List, [], ◌∷◌, Ok, Err, Result, sym, refl, ap, ◌∙◌, subst, inl}
 use Rattle.session.specs.Contents.{Contents}
 use Rattle.std.proofs.lemmas.Bool.{and_from, cond-false, cond-true, false≢true, or_left, or_right}
 use Rattle.words.specs.Pieces.{is_nil, nothing_follows}
 use Rattle.text.specs.Reading.{GivesOrWants, closed, held_by_then, line_holds, line_read, lines_read, passes, some_held}
 use Rattle.text.specs.Turning.{Turned, has_held}
 use Rattle.words.specs.declared.faults.ReadFault.{ReadFault}
-use Rattle.words.specs.declared.faults.ReadFault.TheVariants.{Byte, NoMemory, Rest}
+use Rattle.words.specs.declared.faults.ReadFault.TheVariants.{Byte, Rest}
 use Rattle.text.specs.declared.stages.Stage.{Stage}
 
 pub lines_none : (row : ℕ) (st : Stage) (c : Contents) → lines_read row st c [] ≡ Err (Byte (record { line = row; column = 1 }))
@@ -42,9 +42,6 @@ module _ (row : ℕ) (st : Stage) (c : Contents) (l : List ℕ) (ls : List (List
   pub held_later : (t : Turned) → line_read row st c l (is_nil ls) ≡ Ok t → t.ended ≡ false → some_held (row + 1) t.stage t.held ls ≡ true → some_held row st c (l ∷ ls) ≡ true
   unfolding some_held
   held_later t h n s = ap (λ r. held_by_then r (λ t. some_held (row + 1) t.stage t.held ls)) h ∙ or_right (has_held t) _ (and_from (not t.ended) _ (ap not n) s)
-
-pub wants_err : {T X : Type 0} (f : T → X) (r : Result T ReadFault) (spec : Result X ReadFault) (May : Type 0) (e : ReadFault) → r ≡ Err e → (spec ≡ Err e) ⊎ ((e ≡ NoMemory) × May) → GivesOrWants f r spec May
-wants_err f r spec May e h g = subst (λ r. GivesOrWants f r spec May) (sym h) g
 
 -- what `close` promises
 pub wants_closed : (row : ℕ) (ls : List (List ℕ)) (c : Contents) (r : Result (Unit {0}) ReadFault) (spec : Result Contents ReadFault) (May : Type 0)

@@ -58,9 +58,6 @@ module _ (st : Stage) (c : Contents) (k : Cursor) (w : Item) (k₁ : Cursor) (fi
         go None e = absurd (false≢true e)
         go (Some s) e = refl
 
-    pub turn_ok : (d : Contents) (k₂ : Cursor) → turn first c w k₁ ≡ Ok (d, k₂) → whole_turn st c k ≡ Ok (record { stage = unwrap_or (next_stage st first) st; held = d; ended = is_end first }, k₂)
-    turn_ok d k₂ h = to_turn ∙ ap (λ r. then r (λ x. give (record { stage = unwrap_or (next_stage st first) st; held = x; ended = is_end first }))) h
-
     pub turn_holds : (d : Draft) → is_ok (turn first c w k₁) ≡ true → RoomUsed first d → line_holds (value_of (whole_turn st c k)) ≡ true
     turn_holds d o a = ap (λ r. line_holds (value_of r)) to_turn ∙ go (turn first c w k₁) o
       where
