@@ -83,9 +83,9 @@ pub fn kind(words: &mut Words<'_>, s: u8) -> Result<Kind, ReadFault>
     ensures fits { s ≤ 7 → IfOk result (λ k. fits_unit s (effect k) ≡ true) }
 {
     match s {
-        0..=1 => Ok(Kind::Fir(fir(words)?)),
-        2..=3 => Ok(Kind::Limit(limit(words)?)),
-        4..=5 => Ok(Kind::Pan(pan(words)?)),
-        _ => Ok(Kind::Delay(delay(words)?)),
+        0..=1 => fir(words).map(Kind::Fir),
+        2..=3 => limit(words).map(Kind::Limit),
+        4..=5 => pan(words).map(Kind::Pan),
+        _ => delay(words).map(Kind::Delay),
     }
 }

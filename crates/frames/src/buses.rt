@@ -13,6 +13,7 @@ fn added(parts: &[Part]) -> Sum
 {
     let mut sum = Sum::new();
     for part in parts {
+        // There are at most 48, so none is refused.
         let _ = sum.add(*part);
     }
     sum

@@ -55,7 +55,7 @@ impl Reader {
         }
     }
 
-    // A line by its words; true at the end.
+    // A line by its words; true at the end, as the definition of a turn has it.
     fn whole_turn(&mut self, words: &mut Words<'_>) -> Result<bool, ReadFault>
         ensures { DoesOrWants (turned self.new) result (cursor words.new) (whole_turn self.old.stage (contents_of self.old.draft) (cursor words.old)) ((line_holds (value_of (whole_turn self.old.stage (contents_of self.old.draft) (cursor words.old))) ≡ true) × SomeFull self.old.draft) }
     {

@@ -49,7 +49,7 @@ pub fn first_of(word: &Token<'_>) -> First
 
 impl Stage {
     // Goes on by a first word; false, and it stays, where that may not come now. The project sets this form: one match on
-    // state and first word that changes the reader.
+    // state and first word that changes the reader; the bool is what the definition of a next stage is asked for.
     pub fn advance(&mut self, first: First) -> bool
         ensures due { result ≡ is_some (next_stage self.old first) }
         ensures after { self.new ≡ unwrap_or (next_stage self.old first) self.old }

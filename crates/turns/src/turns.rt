@@ -12,19 +12,15 @@ use units::settings::TrimSettings;
 use words::faults::ReadFault;
 use words::words::{Token, Words};
 
-// What a draft answers to an addition that fits it: the addition is made, or memory lacks.
+// What is told of a draft's answer to an addition that fits it: where it is not made, memory lacks.
 fn fitting(answer: Result<(), DraftFault>) -> Result<(), ReadFault>
-    requires { answer ≡ Err DraftFault.Unfit → ⊥ }
     ensures { result ≡ for_memory answer }
 {
-    match answer {
-        Ok(()) => Ok(()),
-        Err(DraftFault::NoMemory) => Err(ReadFault::NoMemory),
-        Err(DraftFault::Unfit) => unreachable(),
-    }
+    answer.map_err(|_| ReadFault::NoMemory)
 }
 
-// The draft and the words stay two parameters: lent in one struct they make each clause longer, and leave a caller's proof.
+// The draft and the words stay two parameters: tried in one struct that lends both, each clause is longer, and two goals of
+// `given_layer` stay open.
 pub fn session_turn(draft: &mut Draft, words: &mut Words<'_>) -> Result<(), ReadFault>
     ensures exact { paired (λ _. contents_of draft.new) result (cursor words.new) ≡ session_turn (contents_of draft.old) (cursor words.old) }
     ensures stays { OnErr result (contents_of draft.new ≡ contents_of draft.old) }
@@ -43,6 +39,7 @@ pub fn unit_turn(draft: &mut Draft, words: &mut Words<'_>) -> Result<(), ReadFau
     fitting(draft.set_unit(s, kind))
 }
 
+// That unit `s` is set is a fact of the draft that is lent here, so no type could carry it to the layers' functions.
 fn trim_layer(
     draft: &mut Draft,
     s: u8,

@@ -29,11 +29,7 @@ impl TrackPart {
         ensures value { MatchOption result (inside (length bytes.now) self ≡ false) (λ held. (inside (length bytes.now) self ≡ true) × (held.now ≡ drop self.start bytes.now)) }
         ensures room { IfSome result (λ held. self.length ≤ length held.now) }
     {
-        if self.lies_in(bytes.len()) {
-            Some(&bytes[self.start..])
-        } else {
-            None
-        }
+        self.lies_in(bytes.len()).then(|| &bytes[self.start..])
     }
 
     // How many frames a file of the part's length holds; None where no file is that long.
@@ -41,11 +37,7 @@ impl TrackPart {
         ensures { result ≡ frame_count self.length }
     {
         let n = self.length.saturating_sub(44) / 4;
-        if self.length == 44 + 4 * n && n <= 1048576 {
-            Some(n as u32)
-        } else {
-            None
-        }
+        (self.length == 44 + 4 * n && n <= 1048576).then(|| n as u32)
     }
 
     // How many frames the part gives of these bytes.

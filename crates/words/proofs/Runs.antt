@@ -48,14 +48,5 @@ digit_at [] i e h = omega arith
 digit_at (x ∷ xs) zero e h = let p = and_parts _ _ (and_parts _ _ e).0 in (leb-true 48 x p.0, leb-true x 57 p.1)
 digit_at (x ∷ xs) (suc i) e h = digit_at xs i (and_parts _ _ e).1 (omega arith)
 
-pub upto_most : (m : ℕ) (xs : List ℕ) → upto m xs ≤ length xs
-unfolding upto
-upto_most m [] = omega arith
-upto_most m (x ∷ xs) = grow (eqb x m) (upto_most m xs)
-  where
-    grow : (b : Bool) → upto m xs ≤ length xs → cond b zero (suc (upto m xs)) ≤ suc (length xs)
-    grow true h = omega arith
-    grow false h = omega arith
-
 pub ten_times : (i : ℕ) → 10 ^ (i + 1) ≡ 10 * 10 ^ i
 ten_times i = ap (λ k. 10 ^ k) (add-one i) ∙ pow-succ' 10 i

@@ -1,6 +1,7 @@
 ghost use Rattle.std.specs.Prelude.{◌≡◌, ◌≤◌, length};
 ghost use Rattle.words.specs.Bytes.{all_digits, all_letters, is_digit, is_known, is_letter, known_run};
 
+// The project sets this form: a byte is taken as a character and classed by literals and ranges.
 fn is_letter(b: u8) -> bool
     ensures { result ≡ is_letter b }
 {

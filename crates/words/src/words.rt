@@ -4,7 +4,7 @@ use crate::pieces::Pieces;
 pub mod lexing;
 pub mod tokens;
 
-// A word of the text: letters, digits after at most one hyphen, or anything else.
+// The project sets this form, with its three cases. A word of the text: letters, digits after at most one hyphen, or anything else.
 #[derive(Clone, Copy)]
 pub enum Word<'a> {
     Name(&'a [u8]),

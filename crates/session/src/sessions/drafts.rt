@@ -10,7 +10,8 @@ pub mod additions;
 pub mod layers;
 pub mod queries;
 
-// A session in the making. It keeps the rules of nodes, lines and settings at every moment.
+// A session in the making. It keeps the rules of nodes, lines and settings at every moment. Rate 0 says that none is set, as
+// the empty session tells it.
 #[derive(Drop)]
 pub struct Draft {
     pub(super) rate: u32,

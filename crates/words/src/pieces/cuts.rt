@@ -55,7 +55,7 @@ impl<'a> Pieces<'a> {
         self.at == self.len()
     }
 
-    // The next piece. No `Iterator`: between the pieces callers ask where the next begins and whether one is left.
+    // The next piece. No `Iterator`: its clauses would tell the pieces alone, and callers also need where the next begins.
     #[tactic(auto, using(crate::proofs::Cutting::pieces_none))]
     pub fn next(&mut self) -> Option<Short<'a>>
         ensures bytes { self.new.text.bytes.now ≡ self.old.text.bytes.now }

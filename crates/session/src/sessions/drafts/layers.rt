@@ -18,6 +18,7 @@ fn is_for(s: u8, kind: &Kind) -> bool
     }
 }
 
+// One entry of the table is lent to be changed, as the project sets.
 impl Draft {
     // Sets unit `s`; it is unfit where it is set before or the kind is not for it.
     #[tactic(auto, using(crate::proofs::Drafting::still_eight, crate::proofs::Drafting::lawful_kind, crate::proofs::Entries::after_kind))]
