@@ -1,5 +1,5 @@
 -- What a node has heard, and what it has yet to hear.
-use Rattle.std.proofs.Common.{◌≡◌, ℕ, ◌-◌, ◌<◌, List, [], map, length, get_or, Some, None, Option, sym, refl, subst, arith}
+use Rattle.std.proofs.Common.{◌≡◌, ℕ, ◌-◌, ◌<◌, List, [], map, length, None, Option, sym, subst}
 use Rattle.patch.proofs.Joining.{collected, collected_from, from_none}
 use Rattle.patch.specs.Placing.{plan_of}
 use Rattle.patch.specs.Sweeps.{Kind, by_node}

@@ -1,5 +1,5 @@
 -- Numbers that name the next one, and lines that are linked so.
-use Rattle.std.proofs.Common.{◌≡◌, ℕ, zero, suc, ◌+◌, ◌-◌, ◌<◌, ◌≤◌, Bool, cond, eqb, List, [], ◌∷◌, length, get_or, set, replicate, Some, None, filter, Option, sym, refl, ap, ◌∙◌, subst, inl, inr, arith}
+use Rattle.std.proofs.Common.{◌≡◌, ℕ, zero, suc, ◌+◌, ◌-◌, ◌<◌, ◌≤◌, Bool, cond, eqb, List, [], ◌∷◌, length, get_or, set, replicate, Some, None, filter, Option, sym, ap, ◌∙◌, subst, inl, inr, arith}
 use Rattle.patch.specs.Inputs.{Arranges, Links, first_into, next_after}
 use Rattle.patch.specs.Placing.{plan_of}
 use Rattle.patch.specs.Sweeps.{Fit}

@@ -5,7 +5,7 @@ pub mod views;
 pub mod walking;
 
 // Lines by their ends: each node's first line in, and after each line the next one into the same node, a later one.
-// They are lists by index, since making a patch takes no memory that could run out.
+// They are links by index: `next_after` is asked of a line alone, and what a patch promises of them is said of links.
 #[derive(Drop)]
 pub struct Inputs {
     pub(crate) first: [Option<u8>; 16],

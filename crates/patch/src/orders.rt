@@ -1,4 +1,4 @@
-ghost use Rattle.std.specs.Prelude.{◌≡◌, ℕ, ◌<◌, false, length, slice_index_or};
+ghost use Rattle.std.specs.Prelude.{◌≡◌, ℕ, ◌<◌, ◌≤◌, false, length, slice_index_or};
 ghost use Rattle.patch.specs.Placing.{stands};
 
 use arrayvec::ArrayVec;
@@ -11,6 +11,7 @@ pub mod views;
 pub struct Order {
     nodes: ArrayVec<u8, 16>,
     placed: [bool; 16],
+    ghost few: { length nodes.items ≤ 16 },
     ghost sixteen: { length placed ≡ 16 },
     ghost agrees: { (v : ℕ) → v < 16 → slice_index_or placed v false ≡ stands nodes.items v },
 }

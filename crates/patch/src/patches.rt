@@ -1,4 +1,4 @@
-ghost use Rattle.std.specs.Prelude.{◌≡◌, length};
+ghost use Rattle.std.specs.Prelude.{◌≡◌, ◌≤◌, length};
 
 use crate::inputs::Inputs;
 use crate::orders::Order;
@@ -17,5 +17,6 @@ pub struct Patch {
     fed: [u16; 16],
     held: ArrayVec<u16, 48>,
     inputs: Inputs,
+    ghost few: { length held.items ≤ 48 },
     ghost full: { (length late ≡ 16) × (length fed ≡ 16) },
 }

@@ -15,9 +15,7 @@ mod tests {
 
     fn session(heap: Global, text: &[u8]) -> Result<Session, Fail> {
         let mut session = Session::empty(heap);
-        if read(text, &mut session, heap).is_err() {
-            return Err(Fail::new("the text is refused"));
-        }
+        read(text, &mut session, heap).map_err(|_| Fail::new("the text is refused"))?;
         Ok(session)
     }
 

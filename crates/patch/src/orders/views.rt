@@ -37,6 +37,7 @@ impl Order {
         self.nodes.len()
     }
 
+    // A node is a plain number and its bound a clause, since a patch's lists are public and of plain numbers.
     pub(crate) fn has(&self, v: usize) -> bool
         requires { v < 16 }
         ensures { result ≡ stands (listed self.now) v }

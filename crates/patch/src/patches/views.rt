@@ -1,4 +1,4 @@
-ghost use Rattle.std.specs.Prelude.{◌≡◌, ◌<◌, [], length, if◌then◌else◌, Ok, Err, nat_lt};
+ghost use Rattle.std.specs.Prelude.{◌≡◌, ◌<◌, [], length, if◌then◌else◌, Ok, Err, nat_lt, slice_index};
 ghost use Rattle.patch.specs.Inputs.{Arranges, first_into, next_after};
 ghost use Rattle.patch.specs.Patches.{delays, feeder_sets, feeders_of, late_of, latenesses, ordered_nodes};
 ghost use Rattle.patch.specs.declared.faults.PatchFault.TheVariants.{NotDeclared};
@@ -9,6 +9,13 @@ use crate::inputs::arranging::arrange;
 use crate::orders::Order;
 use crate::patches::Patch;
 use arrayvec::ArrayVec;
+
+// What a list by node has for a node.
+fn declared(values: &[u16], v: usize) -> Result<u16, PatchFault>
+    ensures { result ≡ (if nat_lt v (length values.now) then Ok (slice_index values.now v) else Err (NotDeclared v)) }
+{
+    values.get(v).copied().ok_or(PatchFault::NotDeclared(v))
+}
 
 impl Patch {
     // The patch without nodes and lines.
@@ -34,6 +41,7 @@ impl Patch {
     }
 
     // How late each node is.
+    // This and the sets of feeders are two public lists of one length; what they share is a slice.
     pub fn latenesses(&self) -> &[u16]
         ensures { result.now ≡ latenesses self.now }
     {
@@ -79,15 +87,13 @@ impl Patch {
     pub fn lateness(&self, v: usize) -> Result<u16, PatchFault>
         ensures { result ≡ (if nat_lt v (length (latenesses self.now)) then Ok (late_of self.now v) else Err (NotDeclared v)) }
     {
-        let late = self.latenesses().get(v).copied();
-        late.ok_or(PatchFault::NotDeclared(v))
+        declared(self.latenesses(), v)
     }
 
     // The nodes that feed a node, itself included.
     pub fn feeders(&self, v: usize) -> Result<u16, PatchFault>
         ensures { result ≡ (if nat_lt v (length (feeder_sets self.now)) then Ok (feeders_of self.now v) else Err (NotDeclared v)) }
     {
-        let fed = self.feeder_sets().get(v).copied();
-        fed.ok_or(PatchFault::NotDeclared(v))
+        declared(self.feeder_sets(), v)
     }
 }

@@ -1,4 +1,4 @@
-// The theorems, each on a function of its own that names its proof, so that a theorem whose body leaves it out is refused.
+// A theorem and its proof stand apart from the call, so that a call which denies it, or leaves it out, is refused for that alone.
 ghost use Rattle.std.specs.Prelude.{◌≡◌, true};
 ghost use Rattle.patch.specs.Examples.{Worked};
 ghost use Rattle.patch.specs.Placing.{OneOrder, OrderedIsPlaced, PlacedIsOrdered};

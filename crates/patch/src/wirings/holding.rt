@@ -21,11 +21,7 @@ impl Wiring<'_> {
         ensures length { length result ≡ 16 }
         ensures units { (v : ℕ) → v < 16 → slice_index result v ≡ unit_late (R.Rack.units rack.now) (node (wired self.now) v).unit }
     {
-        let mut units = [0; 16];
-        for (v, late) in units.iter_mut().enumerate() {
-            *late = self.lateness_at(rack, v);
-        }
-        units
+        std::array::from_fn(|v| self.lateness_at(rack, v))
     }
 
     // How long each line is held: until the latest of the starts into its end has come.

@@ -19,6 +19,7 @@ pub invariant_of-self : goal.invariant_of-self
 invariant_of-self c =
     let self = c.args.self.now in
     record {
+      few = omega (arith, c.push.ensures.len, c.requires.room);
       sixteen = length-set self.placed c.from.result true ∙ self.sixteen;
       agrees = subst₂ (λ at nodes. (w : ℕ) → w < 16 → get_or (set self.placed at true) w false ≡ stands nodes w) (sym c.from.ensures) (sym c.push.ensures.items)
           (agrees self.nodes.items self.placed c.args.v self.sixteen c.requires.node self.agrees);
