@@ -1,5 +1,5 @@
 -- The lines into a node, one after the other.
-use Rattle.std.proofs.Common.{◌≡◌, ℕ, ◌+◌, ◌<◌, ◌≤◌, Bool, cond, eqb, ltb, List, [], ◌∷◌, ◌++◌, map, length, ◌+ℤ◌, sym, refl, ap, ◌∙◌, subst, arith, length-append}
+use Rattle.std.proofs.Common.{◌≡◌, ℕ, ◌+◌, ◌<◌, ◌≤◌, Bool, cond, eqb, ltb, List, [], ◌∷◌, ◌++◌, map, length, ◌+ℤ◌, sym, ap, ◌∙◌, subst, arith, length-append}
 use Rattle.console.specs.Desks.{desk_plan}
 use Rattle.console.specs.declared.desks.Desk.{Desk}
 use Rattle.frames.proofs.Totals.{adds_one, AddsUp}
