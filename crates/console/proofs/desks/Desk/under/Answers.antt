@@ -1,4 +1,4 @@
-use Rattle.std.proofs.Common.{◌≡◌, ◌<◌, length, sym, refl, ap, ◌∙◌, subst, ap₂, arith}
+use Rattle.std.proofs.Common.{◌≡◌, ◌<◌, length, sym, ap, ◌∙◌, subst, arith}
 use Rattle.console.proofs.Rules.{rules_of}
 use Rattle.console.proofs.desks.Desk.under.Goals as goal
 use Rattle.patch.specs.Inputs.{Arranges}
@@ -24,11 +24,3 @@ invariant_of-result g c =
       ordered = λ k l. omega (arith, ap length nodes, ((in_order p _ r rules c.requires).once k l).0);
       arranged = subst (λ xs. Arranges xs r.inputs) (sym lines) c.requires.arranged;
     }
-
-pub returns : goal.returns
-returns g c = record {
-  plan = ap₂ plan_of
-      ((rw c.unwrap.ensures at c.try_from.ensures).0 ∙ c.nodes.ensures)
-      ((rw c.unwrap-2.ensures at c.try_from-2.ensures).0 ∙ c.lines.ensures);
-  patch = refl;
-}
