@@ -1,5 +1,5 @@
 -- The lines into a node, one after the other.
-use Rattle.std.proofs.Common.{◌≡◌, ℕ, ◌+◌, ◌<◌, ◌≤◌, Bool, cond, eqb, ltb, List, [], ◌∷◌, ◌++◌, map, length, ◌+ℤ◌, sym, refl, ap, ◌∙◌, subst, arith, length-append}
+use Rattle.std.proofs.Common.{◌≡◌, ℕ, ◌+◌, ◌<◌, ◌≤◌, Bool, cond, eqb, ltb, List, [], ◌∷◌, ◌++◌, map, length, ◌+ℤ◌, sym, ap, ◌∙◌, subst, arith, length-append}
 use Rattle.console.specs.Desks.{desk_plan}
 use Rattle.console.specs.declared.desks.Desk.{Desk}
 use Rattle.frames.proofs.Totals.{adds_one, AddsUp}
@@ -9,7 +9,7 @@ use Rattle.frames.specs.declared.sums.Sum.{Sum}
 use Rattle.session.specs.Plan.{line, lines_into}
 use Rattle.signals.proofs.Lines.{all_lines}
 use Rattle.std.proofs.lemmas.List.FromFn.{length-range_with_len}
-use Rattle.std.proofs.lemmas.List.{append_assoc, append-nil, length-map, map-append}
+use Rattle.std.proofs.lemmas.List.{append_assoc, length-map, map-append}
 use Rattle.std.proofs.lemmas.List.Sums.{count_by-le-length, length-filter}
 use Rattle.std.specs.List.{range_with_len, AllByRecursion}
 
@@ -58,11 +58,3 @@ adds_next d make v sum more room left rest i part e is b r l q n =
       added = subst (AddsUp more) (ap (λ f. map make a.done ++ f ∷ []) is ∙ sym (map-append make a.done (i ∷ [])))
           (adds_one sum more (map make a.done) part room a.added few r l q n);
     }
-
-pub is_line : (d : Desk) (make : ℕ → Part) (v : ℕ) (sum : Sum) (left rest : List ℕ) (i : ℕ) → left ≡ i ∷ rest → Adding d make v sum left → i < length d.lines.items
-is_line d make v sum left rest i e a = (subst (AllByRecursion (λ i. i < length d.lines.items)) e a.inside).0
-
--- where none is left all are added
-pub adds_all : (d : Desk) (make : ℕ → Part) (v : ℕ) (sum : Sum) (rest : List ℕ) → rest ≡ [] → Adding d make v sum rest → AddsUp sum (map make (lines_into (desk_plan d) v))
-adds_all d make v sum rest e a =
-    subst (λ is. AddsUp sum (map make is)) (sym (append-nil a.done) ∙ ap (λ is. a.done ++ is) (sym e) ∙ a.all) a.added

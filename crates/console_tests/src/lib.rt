@@ -7,7 +7,6 @@ mod tests {
     use console::faults::ConsoleFault;
     use frames::refusals::Fault;
     use frames::samples::Frame;
-    use patch::faults::PatchFault;
     use racks::interface::Rack;
     use racks::session_rack::session_rack;
     use racks::single::Single;
@@ -253,19 +252,8 @@ mod tests {
         clicks: &[(11, 16000)],
     };
 
-    // The number and the place of a refusal, or 0 and 0.
-    fn told(answer: Result<(), ConsoleFault>) -> (u8, usize) {
-        match answer {
-            Ok(()) => (0, 0),
-            Err(fault) => {
-                let refusal = fault.refusal();
-                (refusal.number, refusal.first)
-            }
-        }
-    }
-
     // The number and the place of a refusal, or 0 and the answer.
-    fn answered(answer: Result<u16, PatchFault>) -> (u8, usize) {
+    fn answered<F: Fault + Drop>(answer: Result<u16, F>) -> (u8, usize) {
         match answer {
             Ok(found) => (0, usize::from(found)),
             Err(fault) => {
@@ -275,13 +263,13 @@ mod tests {
         }
     }
 
+    // The number and the place of a refusal, or 0 and 0.
+    fn told(answer: Result<(), ConsoleFault>) -> (u8, usize) {
+        answered(answer.map(|()| 0))
+    }
+
     fn marked(frames: &[Frame]) -> bool {
-        for frame in frames {
-            if *frame != MARK {
-                return false;
-            }
-        }
-        true
+        frames.iter().all(|frame| *frame == MARK)
     }
 
     // Frames cut or lengthened.
@@ -373,7 +361,10 @@ mod tests {
                 Ask::Rewind => told(self.console.rewind(rack, &mut self.copy)),
                 Ask::Lateness(v) => answered(self.console.lateness(v)),
                 Ask::Feeders(v) => answered(self.console.feeders(v)),
-                Ask::Delay(i) => answered(Ok(self.console.delays().get(i).copied().unwrap_or(0))),
+                Ask::Delay(i) => (
+                    0,
+                    usize::from(self.console.delays().get(i).copied().unwrap_or(0)),
+                ),
             }
         }
 

@@ -18,6 +18,7 @@ use racks::interface::Rack;
 use reels::tracks::Reel;
 use session::sessions::Session;
 
+// Rack, reel, tape and buffer are lent for one call: a history may go on with others, and its clauses name each.
 impl Console {
     // A console that holds the empty session.
     pub fn new() -> Console

@@ -1,27 +1,30 @@
-ghost use Rattle.std.specs.Prelude.{◌≡◌, ◌+◌, Ok, nat_le};
-ghost use Rattle.console.specs.Answers.{check, node_check};
-ghost use Rattle.console.specs.declared.faults.ConsoleFault.TheVariants.{Play};
-ghost use Rattle.console.specs.declared.faults.PlayFault.TheVariants.{TooManyFrames, PastTheEnd};
+ghost use Rattle.std.specs.Prelude.{◌≡◌};
+ghost use Rattle.console.specs.Answers.{play_answer, rewind_answer};
 
 use crate::consoles::Console;
 use crate::faults::{ConsoleFault, PlayFault};
+use frames::samples::Frame;
 use patch::faults::PatchFault;
 
 impl Console {
-    // Does it hold a node?
-    pub(crate) fn check_node(&self) -> Result<(), ConsoleFault>
-        ensures { result ≡ node_check self.now (Ok tt) }
+    // May the console go on with this tape?
+    pub(crate) fn check_rewind(&self, tape: &[Frame]) -> Result<(), ConsoleFault>
+        ensures { result ≡ rewind_answer self.now tape.now }
     {
         if self.desk.node_count() == 0 {
             return Err(PatchFault::NoNode.into());
+        }
+        if tape.len() != 16384 {
+            return Err(PlayFault::TapeLength.into());
         }
         Ok(())
     }
 
     // May it play so many frames?
-    pub(crate) fn check_frames(&self, frames: usize) -> Result<(), ConsoleFault>
-        ensures { result ≡ check (nat_le frames 4096) (Play TooManyFrames) (check (nat_le (self.now.position + frames) 1073741824) (Play PastTheEnd) (Ok tt)) }
+    pub(crate) fn check_play(&self, tape: &[Frame], frames: usize) -> Result<(), ConsoleFault>
+        ensures { result ≡ play_answer self.now tape.now frames }
     {
+        self.check_rewind(tape)?;
         if frames > 4096 {
             return Err(PlayFault::TooManyFrames.into());
         }

@@ -61,9 +61,8 @@ impl Console {
         ensures deck { deck (R.units rack.new) tape.new ≡ by_answer result (after_frames (console_plan self.old) (ordered_nodes (console_patch self.old)) (delay_of (console_patch self.old)) (L.tracks reel.now) (length out.old) self.old.position (deck (R.units rack.old) tape.old)) (deck (R.units rack.old) tape.old) }
         ensures out { out.new ≡ by_answer result (frames_out (console_plan self.old) (ordered_nodes (console_patch self.old)) (delay_of (console_patch self.old)) (L.tracks reel.now) (length out.old) self.old.position (deck (R.units rack.old) tape.old)) out.old }
     {
-        self.check_node()?;
-        let tape = tape.as_mut_array().ok_or(PlayFault::TapeLength)?;
-        self.check_frames(out.len())?;
+        self.check_play(tape, out.len())?;
+        let tape = tape.as_mut_array().unwrap();
         self.desk.fill(rack, reel, tape, out, self.position);
         self.position += out.len() as u32;
         Ok(())
@@ -81,8 +80,8 @@ impl Console {
         ensures rack { R.units rack.new ≡ by_answer result (map rested (R.units rack.old)) (R.units rack.old) }
         ensures tape { tape.new ≡ by_answer result silent_tape tape.old }
     {
-        self.check_node()?;
-        let tape = tape.as_mut_array().ok_or(PlayFault::TapeLength)?;
+        self.check_rewind(tape)?;
+        let tape = tape.as_mut_array().unwrap();
         lay(rack, tape);
         self.position = 0;
         Ok(())

@@ -114,13 +114,20 @@ impl Desk {
         }
     }
 
-    // The work on frame `n`, and then node 0's frame.
-    fn next_frame<R: Rack, L: Reel>(&self, rack: &mut R, reel: &L, tape: &mut Tape, n: u32) -> Frame
+    // The work on frame `n`, and then node 0's frame goes to a place of a buffer.
+    fn fill_frame<R: Rack, L: Reel>(
+        &self,
+        rack: &mut R,
+        reel: &L,
+        tape: &mut Tape,
+        frame: &mut Frame,
+        n: u32,
+    )
         ensures deck { deck (R.units rack.new) tape.new ≡ frame_work (desk_plan self.now) (ordered_nodes self.now.patch) (delay_of self.now.patch) (L.tracks reel.now) n (deck (R.units rack.old) tape.old) }
-        ensures frame { result ≡ on_tape tape.new 0 (pos n) }
+        ensures frame { frame.new ≡ on_tape tape.new 0 (pos n) }
     {
         self.play_frame(rack, reel, tape, n);
-        tape[place(0, n, 0)]
+        *frame = tape[place(0, n, 0)];
     }
 
     // Node 0's frames from frame `n` on fill a buffer.
@@ -137,7 +144,7 @@ impl Desk {
         ensures out { out.new ≡ frames_out (desk_plan self.now) (ordered_nodes self.now.patch) (delay_of self.now.patch) (L.tracks reel.now) (length out.old) n (deck (R.units rack.old) tape.old) }
     {
         for (k, frame) in out.iter_mut().enumerate() {
-            *frame = self.next_frame(rack, reel, tape, n + k as u32);
+            self.fill_frame(rack, reel, tape, frame, n + k as u32);
         }
     }
 }

@@ -1,6 +1,6 @@
 use Rattle.std.specs.Prelude.{is_ok}
 use Rattle.std.proofs.Common.{◌≡◌, ◌∙◌, ap₂, rules}
-use Rattle.console.proofs.Adding.{adds_all, adds_first, adds_next, is_line}
+use Rattle.console.proofs.Adding.{adds_first, adds_next}
 use Rattle.console.proofs.desks.Desk.added.Goals as goal
 use Rattle.console.specs.Desks.{desk_plan}
 use Rattle.patch.proofs.Walking.{walks_lines}
@@ -22,11 +22,6 @@ loop-i-init c =
           (new.left, new.right, new.lines),
     )
 
-pub part-requires : goal.part-requires
-part-requires c =
-    is_line c.args.self.now _ c.args.v c.loop-i.sum (numbers_left c.loop-i.i-iterator) (numbers_left c.next.new.self) c.in-Some.i
-    c.in-Some.ensures.steps c.loop-i.invariant.2
-
 pub loop-i-preserved : goal.loop-i-preserved
 loop-i-preserved c =
     let h = c.add.ensures in (
@@ -36,7 +31,3 @@ loop-i-preserved c =
           (numbers_left c.loop-i.i-iterator) (numbers_left c.next.new.self) c.in-Some.i c.part.result
           c.in-Some.ensures.steps c.part.ensures c.loop-i.invariant.2 h.room h.left h.right h.lines,
     )
-
-pub returns : goal.returns
-returns c =
-    adds_all c.args.self.now _ c.args.v c.loop-i.sum (numbers_left c.loop-i.i-iterator) c.in-None.ensures.steps.0 c.loop-i.invariant.2

@@ -18,8 +18,8 @@ loop-k-preserved g c =
     let k = c.loop-k.k in
     let first = deck (g.R.Rack.units c.args.rack.now) c.args.tape.now in
     let out = c.args.out.now in
-    let h = c.next_frame.ensures in
-    let now : deck (g.R.Rack.units c.next_frame.new.rack) c.next_frame.new.tape ≡ after_frames p order delay reel (k + 1) n first =
+    let h = c.fill_frame.ensures in
+    let now : deck (g.R.Rack.units c.fill_frame.new.rack) c.fill_frame.new.tape ≡ after_frames p order delay reel (k + 1) n first =
     h.deck ∙ ap (frame_work p order delay reel (n + k)) c.loop-k.invariant.0 ∙ sym (after_more p order delay reel k n first) in (
       now,
       ap₂ (λ o f. set o k f) c.loop-k.invariant.1 (h.frame ∙ ap (λ (x : Deck). on_tape x.tape 0 (pos (n + k))) now)
