@@ -1,7 +1,7 @@
 -- The first number that passes a test.
 use Rattle.std.proofs.Common.{◌≡◌, ℕ, zero, suc, ◌+◌, ◌<◌, ◌≤◌, Bool, true, false, cond, List, [], ◌∷◌, length, get_or, Some, None, Option, sym, refl, ap, ap₂, ◌∙◌, inl, inr, arith}
 use Rattle.patch.specs.Due.{lacks, lowest_lacking}
-use Rattle.patch.specs.Placing.{first_of, lowest, plan_of}
+use Rattle.patch.specs.Placing.{lowest, plan_of}
 use Rattle.session.specs.Plan.{node}
 use Rattle.session.specs.declared.nodes.Line.{Line}
 use Rattle.session.specs.declared.nodes.Node.{Node}
@@ -9,21 +9,21 @@ use Rattle.session.specs.declared.nodes.Source.TheVariants.{Bus}
 use Rattle.std.proofs.lemmas.Option.{none-some}
 use Rattle.std.proofs.lemmas.Bool.{cases_eq, cond_both, cond-false, cond-true}
 use Rattle.std.proofs.lemmas.Iterator.Adapters.{position_from-zero}
-use Rattle.std.specs.List.{position, position_from, range_with_len}
+use Rattle.std.specs.List.{find, position, position_from, range_with_len}
 
-first_none : (test : ℕ → Bool) (a n : ℕ) → ((w : ℕ) → w < a + n → test w ≡ false) → first_of test (range_with_len a n) ≡ None
+first_none : (test : ℕ → Bool) (a n : ℕ) → ((w : ℕ) → w < a + n → test w ≡ false) → find test (range_with_len a n) ≡ None
 first_none test a zero h = refl
 first_none test a (suc n) h =
-    cond-false (test a) (Some a) (first_of test (range_with_len (a + 1) n)) (h a (omega arith)) ∙ first_none test (a + 1) n (λ w l. h w (omega arith))
+    cond-false (test a) (Some a) (find test (range_with_len (a + 1) n)) (h a (omega arith)) ∙ first_none test (a + 1) n (λ w l. h w (omega arith))
 
 first_some : (test : ℕ → Bool) (a n v : ℕ) → a ≤ v → v < a + n → test v ≡ true → ((w : ℕ) → w < v → test w ≡ false)
-    → first_of test (range_with_len a n) ≡ Some v
+    → find test (range_with_len a n) ≡ Some v
 first_some test a zero v l b t h = absurd (omega arith)
 first_some test a (suc n) v l b t h =
     elim (cases_eq a v) [
-      | inl e ↦ cond-true (test a) (Some a) (first_of test (range_with_len (a + 1) n)) (ap test e ∙ t) ∙ ap Some e
+      | inl e ↦ cond-true (test a) (Some a) (find test (range_with_len (a + 1) n)) (ap test e ∙ t) ∙ ap Some e
       | inr ne ↦
-          cond-false (test a) (Some a) (first_of test (range_with_len (a + 1) n)) (h a (omega arith))
+          cond-false (test a) (Some a) (find test (range_with_len (a + 1) n)) (h a (omega arith))
           ∙ first_some test (a + 1) n v (omega arith) (omega arith) t h
     ]
 
@@ -35,7 +35,7 @@ lowest_some test n v b t h = first_some test 0 n v (omega arith) (omega arith) t
 
 -- The position of the first item that passes is the lowest number whose item does.
 from_position : {X : Type 0} (test : X → Bool) (d : X) (f : ℕ → Bool) (xs : List X) (i : ℕ)
-    → ((v : ℕ) → v < length xs → test (get_or xs v d) ≡ f (i + v)) → position_from test i xs ≡ first_of f (range_with_len i (length xs))
+    → ((v : ℕ) → v < length xs → test (get_or xs v d) ≡ f (i + v)) → position_from test i xs ≡ find f (range_with_len i (length xs))
 from_position test d f [] i same = refl
 from_position test d f (x ∷ xs) i same =
     ap₂ (λ b o. cond b (Some i) o) (same 0 (omega arith) ∙ ap f (omega arith))
@@ -60,10 +60,10 @@ from_next test a b f (none h) = none (λ w l m. elim (cases_eq a w) [ inl e ↦ 
 from_next test a b f (some l m t h) =
     some (omega arith) m t (λ w k j. elim (cases_eq w a) [ inl e ↦ ap test e ∙ f | inr ne ↦ h w (omega arith) j ])
 
-first_tells : (test : ℕ → Bool) (a n b : ℕ) → a + n ≡ b → Tells test a b (first_of test (range_with_len a n))
+first_tells : (test : ℕ → Bool) (a n b : ℕ) → a + n ≡ b → Tells test a b (find test (range_with_len a n))
 first_tells test a zero b e = none (λ w l m. absurd (omega arith))
 first_tells test a (suc n) b e =
-    cond_both (test a) (Some a) (first_of test (range_with_len (a + 1) n)) (Tells test a b)
+    cond_both (test a) (Some a) (find test (range_with_len (a + 1) n)) (Tells test a b)
     (λ t. some (omega arith) (omega arith) t (λ w l m. absurd (omega arith)))
     (λ f. from_next test a b f (first_tells test (a + 1) n b (omega arith)))
 

@@ -4,6 +4,7 @@ use Rattle.patch.specs.Placing.{place_in, stands}
 use Rattle.std.proofs.Math.Bool.{or-false}
 use Rattle.std.proofs.lemmas.List.Recursion.{or_push}
 use Rattle.std.proofs.lemmas.Bool.{both_ways, cases_Bool, cases_eq, cond_both, cond-false, cond-true, eq-eqb, eqb-true, false≢true, ne_eqb, or_parts}
+use Rattle.std.specs.List.{list_any}
 
 or_second : (a b : Bool) → a ≡ false → (a || b) ≡ true → b ≡ true
 or_second true b f h = absurd (both_ways true f refl)
@@ -118,3 +119,8 @@ pub all_standing : (xs : List ℕ) (n : ℕ) → ((v : ℕ) → v < n → stands
 all_standing xs zero h = refl
 all_standing xs (suc n) h =
     omega (arith, all_standing xs n (λ v l. h v (omega arith)), ap (λ (b : Bool). cond {A = ℕ} b 1 0) (h n (omega arith)))
+
+-- Some number of a list is v.
+pub any_stands : (order : List ℕ) (v : ℕ) → list_any (λ w. eqb w v) order ≡ stands order v
+any_stands [] v = refl
+any_stands (w ∷ ws) v = ap (λ b. (eqb w v || b)) (any_stands ws v)

@@ -4,7 +4,7 @@ use Rattle.session.specs.Plan.{KeepsRules, Plan, line, lines_into}
 use Rattle.session.specs.declared.nodes.Line.{Line}
 use Rattle.session.specs.declared.nodes.Node.{Node}
 use Rattle.signals.specs.Patches.{Ordered}
-use Rattle.std.specs.List.{range_with_len}
+use Rattle.std.specs.List.{find, range_with_len}
 
 -- The plan of some nodes and lines.
 abbrev pub plan_of : List Node → List Line → Plan
@@ -20,14 +20,9 @@ abbrev pub every : (ℕ → Bool) → List ℕ → Bool
 every test [] = true
 every test (v ∷ vs) = test v && every test vs
 
--- The first that passes.
-abbrev pub first_of : (ℕ → Bool) → List ℕ → Option ℕ
-first_of test [] = None
-first_of test (v ∷ vs) = cond (test v) (Some v) (first_of test vs)
-
 -- The lowest below n that passes.
 abbrev pub lowest : (ℕ → Bool) → ℕ → Option ℕ
-lowest test n = first_of test (range_with_len 0 n)
+lowest test n = find test (range_with_len 0 n)
 
 -- Node v can be placed after those of an order: it is not among them, and its lines in all start there.
 abbrev pub can_follow : Plan → List ℕ → ℕ → Bool

@@ -16,6 +16,7 @@ pub trait Flow {
         ensures { result ≡ (kind self.now).join a b };
 
     // A set of nodes has 16 bits.
+    // A node is a plain number and its bound a clause, since a patch's lists are public and of plain numbers.
     fn step(&self, v: u8, x: Self::Value) -> Self::Value
         requires { v < 16 }
         ensures { result ≡ (kind self.now).step v x };

@@ -1,15 +1,16 @@
-ghost use Rattle.std.specs.Prelude.{◌≡◌, ◌<◌, ◌≤◌, not, [], ◌∷◌, ◌++◌, length, position};
+ghost use Rattle.std.specs.Prelude.{◌≡◌, ◌<◌, ◌≤◌, not, [], ◌∷◌, ◌++◌, length, ◌==◌};
+ghost use Rattle.std.specs.List.{list_any};
 ghost use Rattle.patch.specs.Orders.{listed};
 ghost use Rattle.patch.specs.Placing.{lowest, stands};
 
 use crate::orders::Order;
 use arrayvec::ArrayVec;
 
-// The first place that is not taken.
-fn first_free(placed: &[bool]) -> Option<usize>
-    ensures { result ≡ position not placed.now }
+// Is one of some nodes v?
+fn some_is(nodes: &[u8], v: usize) -> bool
+    ensures { result ≡ list_any (λ w. w == v) nodes.now }
 {
-    placed.iter().position(|placed| !*placed)
+    nodes.iter().any(|w| usize::from(*w) == v)
 }
 
 impl Order {
@@ -19,7 +20,6 @@ impl Order {
     {
         Order {
             nodes: ArrayVec::new(),
-            placed: [false; 16],
         }
     }
 
@@ -37,28 +37,23 @@ impl Order {
         self.nodes.len()
     }
 
-    // A node is a plain number and its bound a clause, since a patch's lists are public and of plain numbers.
     pub(crate) fn has(&self, v: usize) -> bool
-        requires { v < 16 }
         ensures { result ≡ stands (listed self.now) v }
     {
-        self.placed[v]
+        some_is(self.nodes(), v)
     }
 
     // The lowest of so many nodes that is not placed.
     pub(crate) fn lowest_missing(&self, nodes: usize) -> Option<usize>
-        requires { nodes ≤ 16 }
         ensures { result ≡ lowest (λ v. not (stands (listed self.now) v)) nodes }
     {
-        first_free(&self.placed[..nodes])
+        (0..nodes).find(|v| !self.has(*v))
     }
 
     pub(crate) fn push(&mut self, v: u8)
-        requires node { v < 16 }
-        requires room { length (listed self.old) < 16 }
+        requires { length (listed self.old) < 16 }
         ensures { listed self.new ≡ listed self.old ++ v ∷ [] }
     {
         self.nodes.push(v);
-        self.placed[usize::from(v)] = true;
     }
 }

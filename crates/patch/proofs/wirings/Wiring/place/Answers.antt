@@ -15,8 +15,8 @@ loop-v-init c =
     subst (λ xs. Sound p xs × (grown p (length p.nodes - length xs) xs ≡ order_of p)) (sym c.empty-order.ensures)
     (sound_none p, ap (λ m. grown p m []) whole)
 
-pub push-requires-clause-room : goal.push-requires-clause-room
-push-requires-clause-room c =
+pub push-requires : goal.push-requires
+push-requires c =
     let f = c.in-Some.ensures in
     let p = wired c.args.self.now in
     let order = listed c.loop-v.order in
