@@ -17,9 +17,6 @@ abs_mul (negsuc a) (negsuc b) = refl
 pub product_bound : (m n : ℕ) (a b : ℤ) → nat_abs a ≤ m → nat_abs b ≤ n → nat_abs (a *ℤ b) ≤ m * n
 product_bound m n a b p q = rw (abs_mul a b) (mul-le-mul p q)
 
-pub sum_bound : (a b : ℤ) → nat_abs (a +ℤ b) ≤ nat_abs a + nat_abs b
-sum_bound a b = omega (arith, ints, abs_is)
-
 pub divided_bound : (k : ℕ) (z : ℤ) → nat_abs z ≤ 16384 * k → nat_abs (divided z) ≤ k
 divided_bound k (pos n) h = omega arith
 divided_bound k (negsuc n) h = omega arith

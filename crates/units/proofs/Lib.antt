@@ -4,4 +4,3 @@ pub mod Rested
 pub mod Rings
 pub mod Tables
 pub mod Tapping
-pub mod Weighing

@@ -1,8 +1,10 @@
-ghost use Rattle.std.specs.Prelude.{◌≡◌, true};
+ghost use Rattle.std.specs.Prelude.{◌≡◌, Bool, true, cond};
+ghost use Rattle.frames.specs.Samples.{silence};
 ghost use Rattle.units.specs.Heard.{heard};
 ghost use Rattle.units.specs.Meanings.{bypass_meaning, Steps, Rests};
 ghost use Rattle.voices.proofs.KindLaws.{bypass_lawful, bypass_within};
-ghost use Rattle.voices.specs.Kinds.{bypass_over};
+ghost use Rattle.voices.specs.Kinds.{bypass_over, delay_rule};
+ghost use Rattle.voices.specs.Rules.{by_rule_after};
 
 use crate::interface::Unit;
 use crate::past::Past;
@@ -18,6 +20,13 @@ pub struct Bypass<U> {
 }
 
 impl<U: Unit> Bypass<U> {
+    // A past in which nothing was heard: a bypass over any unit is at rest with it, on or off.
+    fn fresh() -> Past
+        ensures { (on : Bool) (u : U) → cond on (by_rule_after silence (U.Unit.meaning u).late (delay_rule (U.Unit.meaning u).late) (heard result)) (U.Unit.meaning u) ≡ bypass_over on (U.Unit.meaning u) }
+    {
+        Past::new()
+    }
+
     // A bypass over a unit, which stays as it is.
     pub fn new(unit: U, settings: BypassSettings) -> Bypass<U>
         ensures { bypass_meaning U.Unit.meaning result ≡ bypass_over settings.on (U.Unit.meaning unit) }
@@ -25,7 +34,7 @@ impl<U: Unit> Bypass<U> {
         Bypass {
             unit,
             settings,
-            past: Past::new(),
+            past: Self::fresh(),
         }
     }
 

@@ -8,6 +8,7 @@ use frames::samples::Frame;
 // A processor that hears one frame at a time and answers one. All that is known of it is its meaning: how late it is, its
 // voice (what it makes of a list from rest) and its present voice (the same from its state now).
 pub trait Unit {
+    // The project sets this form: the settings' type and the greatest lateness belong to the trait, and layers pass them on.
     // What this kind is set by.
     type Settings;
 

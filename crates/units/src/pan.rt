@@ -11,6 +11,7 @@ use crate::settings::PanSettings;
 use frames::samples::{Frame, scale};
 
 // The weight of each position p: the largest whole number whose square is at most 1,048,576 × (256 − p).
+// The project sets this form: a constant table, whose rule is proved for each entry.
 const WEIGHTS: [u16; 257] = [
     16384, 16351, 16319, 16287, 16255, 16223, 16190, 16158, 16125, 16093, 16060, 16028, 15995,
     15962, 15929, 15896, 15863, 15830, 15797, 15764, 15730, 15697, 15664, 15630, 15597, 15563,
@@ -51,6 +52,7 @@ fn weigh(sample: i16, weight: u16) -> i16
 }
 
 // A unit that weighs its sides by a position between left and right.
+// It answers by the newest frame alone, so it keeps no past and is no `Ruled`.
 #[derive(Drop)]
 pub struct Pan {
     settings: PanSettings,

@@ -12,6 +12,7 @@ use frames::samples::Frame;
 #[derive(Drop)]
 pub struct Past {
     frames: [Frame; 64],
+    // That `at` is below 64 is no fact of the type: it would make the definition of what was heard and the type cite one another.
     at: u8,
 }
 

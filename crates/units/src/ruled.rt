@@ -6,7 +6,7 @@ ghost use Rattle.units.specs.Meanings.{ruled_meaning};
 ghost use Rattle.voices.proofs.Looks.{Looks};
 ghost use Rattle.voices.proofs.Pasts.{rule_lawful};
 ghost use Rattle.voices.specs.Meaning.{Meaning};
-ghost use Rattle.voices.specs.Rules.{by_rule};
+ghost use Rattle.voices.specs.Rules.{by_rule, by_rule_after, voice_after, voice_by};
 
 use crate::interface::Unit;
 use crate::past::Past;
@@ -41,6 +41,14 @@ pub trait Rule {
 
     fn answer(&self, past: &Past) -> Frame
         ensures { result ≡ rule self.now (heard past.now) };
+
+    // The past of a unit at rest, in which nothing was heard.
+    final fn fresh(&self) -> Past
+        ensures unit { by_rule_after silence (late self.now) (rule self.now) (heard result) ≡ unit self.now }
+        ensures voice { voice_after (rule self.now) (heard result) ≡ voice_by silence (rule self.now) }
+    {
+        Past::new()
+    }
 }
 
 // A unit that answers by the rule of its settings.
@@ -55,10 +63,8 @@ impl<S: Rule> Ruled<S> {
     pub fn new(settings: S) -> Ruled<S>
         ensures { ruled_meaning S.late S.rule result ≡ S.unit settings }
     {
-        Ruled {
-            settings,
-            past: Past::new(),
-        }
+        let past = settings.fresh();
+        Ruled { settings, past }
     }
 }
 
@@ -85,6 +91,6 @@ impl<S: Rule> Unit for Ruled<S> {
     }
 
     fn rest(&mut self) {
-        self.past = Past::new();
+        self.past = self.settings.fresh();
     }
 }

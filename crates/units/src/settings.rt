@@ -13,6 +13,7 @@ pub struct FirSettings {
 
 impl FirSettings {
     // None where the number of taps is even or above 31.
+    // The literals ask for the tested facts, which a closure given to `then` does not know.
     pub fn new(taps: [i16; 31], count: u8) -> Option<FirSettings>
         ensures { MatchOption result (FirRange count → ⊥) (λ s. (s.taps ≡ taps) × (s.count ≡ count)) }
     {
@@ -53,7 +54,7 @@ pub struct PanSettings {
 }
 
 impl PanSettings {
-    // None where the position is above 256. The literal itself asks for the test, so no `then` stands in for the branch.
+    // None where the position is above 256.
     pub fn new(position: u16) -> Option<PanSettings>
         ensures { MatchOption result (PanRange position → ⊥) (λ s. s.position ≡ position) }
     {

@@ -44,10 +44,6 @@ counting_more n = sym (map-id (range_with_len 0 (n + 1))) ∙ map-range_with_len
 pub total_counting_more : (f : ℕ → ℤ) (n : ℕ) → total f (range_with_len 0 (n + 1)) ≡ total f (range_with_len 0 n) +ℤ f n
 total_counting_more f n = ap (total f) (counting_more n) ∙ total_push f (range_with_len 0 n) n
 
-pub greatest_push : {X : Type 0} (f : X → ℕ) (xs : List X) (y : X) → greatest f (xs ++ y ∷ []) ≡ max (f y) (greatest f xs)
-greatest_push f [] y = refl
-greatest_push f (x ∷ xs) y = let h = greatest_push f xs y in omega arith
-
 pub delay_looks : (frames : ℕ) → frames ≤ 63 → Looks 63 (delay_rule frames)
 delay_looks frames h p q agree = agree frames h
 
