@@ -24,8 +24,7 @@ use units::trim::Trim;
 // A unit under its layers, as a rack of one.
 pub type Strip<U> = Single<Trim<Bypass<U>>>;
 
-// Four matches: each takes another variant and has another default; put into `by`, the search lost the settings' range where
-// the arms meet.
+// Four matches: each takes another variant and default; put into `by`, the search lost the settings' range where arms meet.
 
 // A fir's settings, or those of one that is not set.
 fn fir_settings(kind: Option<Kind>) -> FirSettings
