@@ -7,5 +7,8 @@ use crate::interface::Rack;
 pub fn latest_unit<R: Rack>(rack: &R) -> u8
     ensures { result ≡ greatest (λ m. m.late) (R.units rack.now) }
 {
-    (0..rack.count()).fold(0, |latest, s| rack.lateness(s).max(latest))
+    (0..rack.count())
+        .map(|s| rack.lateness(s))
+        .max()
+        .unwrap_or(0)
 }

@@ -12,20 +12,22 @@ use units::fir::Fir;
 use units::limit::Limit;
 use units::pan::Pan;
 
-// Two firs, two limits, two pans and two delays, each under its layers.
-pub type Firs = Pair<Strip<Fir>, Strip<Fir>>;
+// Two units of one kind, each under its layers.
+pub type Two<U> = Pair<Strip<U>, Strip<U>>;
 
-pub type Limits = Pair<Strip<Limit>, Strip<Limit>>;
+pub type Firs = Two<Fir>;
 
-pub type Pans = Pair<Strip<Pan>, Strip<Pan>>;
+pub type Limits = Two<Limit>;
 
-pub type Delays = Pair<Strip<Delay>, Strip<Delay>>;
+pub type Pans = Two<Pan>;
+
+pub type Delays = Two<Delay>;
 
 // The eight units of a session, by number.
 pub type SessionRack = Pair<Pair<Firs, Limits>, Pair<Pans, Delays>>;
 
 // Unit `s` of a session and the next one, both of one kind.
-fn two<U: Kinded>(session: &Session, s: usize) -> Pair<Strip<U>, Strip<U>>
+fn two<U: Kinded>(session: &Session, s: usize) -> Two<U>
     requires { s < 7 }
     ensures { two_units U.meaning result ≡ layered (setting (held session.now).settings s) (U.unit_by (setting (held session.now).settings s).kind) ∷ layered (setting (held session.now).settings (s + 1)) (U.unit_by (setting (held session.now).settings (s + 1)).kind) ∷ [] }
 {

@@ -1,6 +1,6 @@
 ghost use Rattle.std.specs.Prelude.{◌≡◌, Option};
 ghost use Rattle.frames.specs.declared.samples.Frame.{Frame};
-ghost use Rattle.racks.specs.SessionRack.{ceiling_by, frames_by, gain_of, layered, lookahead_by, position_by, taps_by};
+ghost use Rattle.racks.specs.SessionRack.{ceiling_by, frames_by, layered, lookahead_by, position_by, taps_by};
 ghost use Rattle.session.specs.declared.settings.Kind.{Kind};
 ghost use Rattle.units.specs.Meanings.{bypass_meaning, trim_meaning};
 ghost use Rattle.units.specs.Taps.{taps_of};
@@ -23,6 +23,8 @@ use units::trim::Trim;
 
 // A unit under its layers, as a rack of one.
 pub type Strip<U> = Single<Trim<Bypass<U>>>;
+
+// Four matches: each takes another variant and default; put into `by`, the search lost the settings' range where arms meet.
 
 // A fir's settings, or those of one that is not set.
 fn fir_settings(kind: Option<Kind>) -> FirSettings

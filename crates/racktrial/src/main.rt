@@ -15,35 +15,22 @@ use units::interface::Unit;
 const TEXT: &[u8] =
     b"session 1 48000\nunit 0 fir 3 4096 8192 4096\nunit 1 fir 1 16384\nunit 2 limit 1 10000\nunit 3 limit 0 1\nunit 4 pan 0\nunit 5 pan 128\nunit 6 delay 2\nunit 7 delay 1\nlayer 0 trim 8192\nlayer 1 trim -16384\nlayer 2 bypass\nlayer 5 trim 30000\nlayer 6 trim 32767\nlayer 6 bypass\nnode 0 bus\nend\n";
 
-fn answer<R: Rack>(
-    rt: &HostRuntime,
-    rack: &mut R,
-    s: u8,
-    left: i16,
-    right: i16,
-) -> anyhow::Result<()> {
-    let f = rack.step(s, Frame { left, right });
-    let left = f.left;
-    let right = f.right;
-    print!(rt; " {left},{right}")?;
-    Ok(())
-}
-
 fn answers<R: Rack>(rt: &HostRuntime, rack: &mut R, s: u8) -> anyhow::Result<()> {
-    let late = rack.lateness(s);
-    print!(rt; "unit {s}, {late} late:")?;
-    answer(rt, rack, s, 16000, -16000)?;
-    answer(rt, rack, s, 5000, 20000)?;
-    answer(rt, rack, s, -32768, 7)?;
-    answer(rt, rack, s, 0, 0)?;
+    print!(rt; "unit {s}, {} late:", rack.lateness(s))?;
+    for (left, right) in [(16000, -16000), (5000, 20000), (-32768, 7), (0, 0)] {
+        let answer = rack.step(s, Frame { left, right });
+        print!(rt; " {},{}", answer.left, answer.right)?;
+    }
     println!(rt; "")?;
     Ok(())
 }
 
 fn units<R: Rack>(rt: &HostRuntime, rack: &mut R, from: u8, to: u8) -> anyhow::Result<()> {
-    let count = rack.count();
-    let latest = latest_unit(rack);
-    println!(rt; "{count} units, the latest {latest} late")?;
+    println!(rt;
+        "{} units, the latest {} late",
+        rack.count(),
+        latest_unit(rack)
+    )?;
     for s in from..to {
         answers(rt, rack, s)?;
     }
@@ -69,9 +56,7 @@ fn three(rt: &HostRuntime, session: &Session) -> anyhow::Result<()> {
 
 fn run(rt: &HostRuntime) -> anyhow::Result<()> {
     let mut session = Session::empty(rt.alloc());
-    if read(TEXT, &mut session, rt.alloc()).is_err() {
-        return Err(anyhow!("the text is refused"));
-    }
+    read(TEXT, &mut session, rt.alloc()).map_err(|_| anyhow!("the text is refused"))?;
     one(rt, &session)?;
     three(rt, &session)
 }

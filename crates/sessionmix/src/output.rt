@@ -18,12 +18,13 @@ pub(crate) fn list(rt: &HostRuntime, summary: Summary, frames: &[Frame]) -> anyh
     push_number(&mut text, u32::from(summary.late))?;
     push_number(&mut text, summary.frames)?;
     push_number(&mut text, u32::from(summary.feeders))?;
-    text.push(10)?;
+    text.push(b'\n')?;
     push_frames(&mut text, frames)?;
     rt.stdout().write_all(&text)?;
     Ok(())
 }
 
+// Each mixer saves for itself: a shared function would be public, and no contract can pin what a file takes.
 pub(crate) fn save(rt: &HostRuntime, bytes: &[u8]) -> anyhow::Result<()> {
     fs::write(rt, "mix.wav", bytes).map_err(|e| anyhow!("mix.wav cannot be written: {e}"))
 }

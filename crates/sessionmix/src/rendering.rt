@@ -11,49 +11,51 @@ use session::sessions::Session;
 use units::interface::Unit;
 use wave::writer::{write_file, write_head};
 
-// Starts the console; tells how late, how long and from which nodes the mix is. A mix too long to write is refused here.
-fn begin<R: Rack, L: Reel>(
-    console: &mut Console,
-    session: &Session,
-    rack: &mut R,
-    reel: &L,
-    tape: &mut [Frame],
-) -> Result<Summary, MixFault> {
-    console.start(session, rack, tape)?;
-    let late = console.lateness(0)?;
-    let feeders = console.feeders(0)?;
-    let frames = mix_length(session, reel, late);
-    write_head(session, frames, &mut [0; 44])?;
-    Ok(Summary {
-        late,
-        frames,
-        feeders,
-    })
+// A console with the rack, the reel and the tape that a mix takes.
+#[derive(Drop)]
+struct Desk<'a, R, L> {
+    console: Console,
+    rack: R,
+    reel: &'a L,
+    tape: Vec<Frame>,
 }
 
-// Fills a buffer of any length, at most 4,096 frames at a time. Progress is a flag: a closure in its place would have to be
-// said callable by each function that it goes through.
-fn play_all<R: Rack, L: Reel>(
-    rt: &HostRuntime,
-    console: &mut Console,
-    rack: &mut R,
-    reel: &L,
-    tape: &mut [Frame],
-    out: &mut [Frame],
-    progress: bool,
-) -> Result<(), Stop> {
-    let total = out.len();
-    let mut played = 0usize;
-    for frames in out.chunks_mut(4096) {
-        console
-            .play(rack, reel, tape, frames)
-            .map_err(MixFault::Console)?;
-        played = played.saturating_add(frames.len());
-        if progress {
-            show(rt, played, total)?;
-        }
+impl<'a, R: Rack, L: Reel> Desk<'a, R, L> {
+    // Starts the console; tells how late, how long and from which nodes the mix is. A mix too long to write is refused here.
+    fn begin(&mut self, session: &Session) -> Result<Summary, MixFault> {
+        self.console.start(session, &mut self.rack, &mut self.tape)?;
+        let late = self.console.lateness(0)?;
+        let feeders = self.console.feeders(0)?;
+        let frames = mix_length(session, self.reel, late);
+        write_head(session, frames, &mut [0; 44])?;
+        Ok(Summary {
+            late,
+            frames,
+            feeders,
+        })
     }
-    Ok(())
+
+    // Fills a buffer of any length, at most 4,096 frames at a time.
+    // Progress is a flag: a closure would be one more type parameter of four functions.
+    fn play_all(
+        &mut self,
+        rt: &HostRuntime,
+        out: &mut [Frame],
+        progress: bool,
+    ) -> Result<(), Stop> {
+        let total = out.len();
+        let mut played = 0usize;
+        for frames in out.chunks_mut(4096) {
+            self.console
+                .play(&mut self.rack, self.reel, &mut self.tape, frames)
+                .map_err(MixFault::Console)?;
+            played = played.saturating_add(frames.len());
+            if progress {
+                show(rt, played, total)?;
+            }
+        }
+        Ok(())
+    }
 }
 
 fn show(rt: &HostRuntime, played: usize, total: usize) -> anyhow::Result<()> {
@@ -68,23 +70,19 @@ fn filled<T: Copy + Drop>(rt: &HostRuntime, value: T, count: usize) -> anyhow::R
 fn mix_with<R: Rack + Drop, L: Reel>(
     rt: &HostRuntime,
     session: &Session,
-    mut rack: R,
+    rack: R,
     reel: &L,
     progress: bool,
 ) -> Result<(), Stop> {
-    let mut console = Console::new();
-    let mut tape = filled(rt, Frame::SILENCE, 16384)?;
-    let summary = begin(&mut console, session, &mut rack, reel, &mut tape)?;
-    let mut frames = filled(rt, Frame::SILENCE, summary.frames as usize)?;
-    play_all(
-        rt,
-        &mut console,
-        &mut rack,
+    let mut desk = Desk {
+        console: Console::new(),
+        rack,
         reel,
-        &mut tape,
-        &mut frames,
-        progress,
-    )?;
+        tape: filled(rt, Frame::SILENCE, 16384)?,
+    };
+    let summary = desk.begin(session)?;
+    let mut frames = filled(rt, Frame::SILENCE, summary.frames as usize)?;
+    desk.play_all(rt, &mut frames, progress)?;
     let mut bytes = filled(rt, 0u8, 44 + 4 * frames.len())?;
     write_file(session, &frames, &mut bytes).map_err(MixFault::Write)?;
     save(rt, &bytes)?;

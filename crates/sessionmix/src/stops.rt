@@ -6,6 +6,7 @@ pub enum Stop {
     Failed(anyhow::Error),
 }
 
+// Two conversions by hand: the kit's derive wants a message for each case, and none is printed.
 impl From<MixFault> for Stop {
     fn from(fault: MixFault) -> Stop {
         Stop::Refused(fault)
