@@ -12,7 +12,7 @@ impl Wiring<'_> {
         requires { v < 16 }
         ensures { result ≡ joined (F.Flow.kind kind.now) (map (λ i. by_node (F.Flow.kind kind.now) values.now (line (wired self.now) i).start) (lines_into (wired self.now) v)) }
     {
-        // As `map` and `reduce` it was tried: the bounds of both places, whether the chain can be asked, and what it gives stayed open.
+        // As `map` and `reduce` it was tried: the bound of `values`, whether the chain can be asked, and what it gives stayed open.
         let mut heard = None;
         for i in self.inputs.lines_into(usize::from(v)) {
             let start = usize::from(self.lines[usize::from(i)].start);
