@@ -65,8 +65,7 @@ fn kind(name: &str, count: u32) -> Option<u32> {
 }
 
 fn run(rt: &HostRuntime) -> anyhow::Result<()> {
-    let mut args = env::args(rt)?;
-    let _ = args.next();
+    let mut args = env::args(rt)?.skip(1);
     if let (Some(name), Some(count)) = (args.next(), args.next()) {
         if let Some(sum) = kind(name.as_str(), count.as_str().parse::<u32>()?) {
             println!(rt; "{name} {sum:08x}")?;
