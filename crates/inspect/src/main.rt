@@ -9,6 +9,7 @@ use std::io::Read;
 use text::reader::read;
 use units::settings::FirSettings;
 
+// Printed here and not by Display: only this program writes these words.
 fn print_fir(rt: &HostRuntime, s: usize, fir: &FirSettings) -> anyhow::Result<()> {
     print!(rt; "unit {s}: fir of {} taps:", fir.count)?;
     for tap in fir.taps.iter().take(usize::from(fir.count)) {
