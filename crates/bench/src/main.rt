@@ -146,8 +146,7 @@ fn print_end(rt: &HostRuntime) -> anyhow::Result<()> {
 }
 
 fn run(rt: &HostRuntime) -> anyhow::Result<()> {
-    let mut args = env::args(rt)?;
-    let _ = args.next();
+    let mut args = env::args(rt)?.skip(1);
     let Some(first) = args.next() else {
         print(rt, SENDS, 10000)?;
         return print(rt, b"", 10000);

@@ -77,7 +77,7 @@ fn delay(words: &mut Words<'_>) -> Result<DelaySettings, ReadFault>
     })
 }
 
-// The kind that unit `s` has to have, with its settings; from 6 on, a delay.
+// The kind that unit `s` has to have, with its settings; from 6 on, a delay. A unit's number decides, as in the definition.
 pub fn kind(words: &mut Words<'_>, s: u8) -> Result<Kind, ReadFault>
     ensures value { paired effect result (cursor words.new) ≡ kind_form s (cursor words.old) }
     ensures fits { s ≤ 7 → IfOk result (λ k. fits_unit s (effect k) ≡ true) }

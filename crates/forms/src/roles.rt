@@ -4,7 +4,8 @@ ghost use Rattle.forms.specs.Forms.{role_fits, role_most};
 
 use session::sessions::drafts::Draft;
 
-// What a number names: a unit that is new, is set, or is set and free; the next node, a declared one, or a bus.
+// What a number names: a unit that is new, is set, or is set and free; the next node, a declared one, or a bus. The
+// definitions of the format name these roles, which a closure for the test would not.
 #[derive(Clone, Copy)]
 pub enum Role {
     NewUnit,

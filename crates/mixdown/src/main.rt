@@ -32,7 +32,7 @@ fn list(rt: &HostRuntime, frames: &[Frame], count: u32) -> anyhow::Result<()> {
     Ok(())
 }
 
-// Each mixer saves for itself: no contract can say what a file takes, so a shared call would promise nothing.
+// Each mixer saves for itself: a shared function would be public, and no contract can pin what a file takes.
 fn save(rt: &HostRuntime, bytes: &[u8]) -> anyhow::Result<()> {
     fs::write(rt, "mix.wav", bytes).map_err(|e| anyhow!("mix.wav cannot be written: {e}"))
 }

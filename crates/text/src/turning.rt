@@ -10,7 +10,7 @@ use turns::turns::{layer_turn, line_turn, node_turn, session_turn, unit_turn};
 use words::faults::ReadFault;
 use words::words::{Token, Words};
 
-// The line that begins with this first word.
+// The line that begins with this first word. The project sets this form, one match on the first word.
 pub fn turn(
     draft: &mut Draft,
     first: First,
