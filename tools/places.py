@@ -78,13 +78,21 @@ for f in FNS:
         found("1", "a flag handed over", f.where, f"{f.name}: {p}")
     if re.search(r"-> Refusal\b", f.head) and not f.where.startswith("frames/") and f.name != "refusal" and "tests" not in f.where:
         found("1", "a number for a refusal, in a helper of its own", f.where, f.name)
-for w, s in SRC.items():
-    for at, line in lines(w, s, r"^\s+(Neither|Other|Unknown|Nothing|Missing|None)\b(\(.*\))?,"):
-        found("1", "a case of an own enum that says none", at, line)
-    for at, line in lines(w, s, r"\b(None|Some\(_\)) => |\bErr\(\w+\) => (return )?Err\(|if let Err\(|_ => None|\bErr\(_\) =>"):
-        found("1", "an Option or Result taken apart by hand", at, line)
-    for at, line in lines(w, s, r"unreachable\(\)"):
-        found("1", "a case that cannot be", at, line)
+
+# What one line shows, of points 1, 4 and 7
+ON_A_LINE = [
+    ("1", "a case of an own enum that says none", r"^\s+(Neither|Other|Unknown|Nothing|Missing|None)\b(\(.*\))?,"),
+    ("1", "an Option or Result taken apart by hand", r"\b(None|Some\(_\)) => |\bErr\(\w+\) => (return )?Err\(|if let Err\(|_ => None|\bErr\(_\) =>"),
+    ("1", "a case that cannot be", r"unreachable\(\)"),
+    ("4", "a conversion by as", r"\bas (usize|u64|u32|u16|u8|i8|i16|i32|i64)\b"),
+    ("4", "an impl by hand", r"^impl.*\b(From|TryFrom|Display|Debug|PartialEq|Eq|Ord|PartialOrd|Clone|Copy|Default)\b.* for "),
+    ("4", "a max or min by hand", r"if (\w+) < (\w+) \{ \2 \} else \{ \1 \}|if (\w+) > (\w+) \{ .* \} else \{ .* \}$|if (\w+) < \d+ \{ \5 \}"),
+    ("7", "a function handed over", r"\bdyn \b|: fn\(|impl Fn"),
+]
+for point, kind, pattern in ON_A_LINE:
+    for w, s in SRC.items():
+        for at, line in lines(w, s, pattern):
+            found(point, kind, at, line)
 
 # 2. Twins: the same tokens but for names and numbers; and one contract on two functions
 def shape(f):
@@ -124,15 +132,6 @@ for w, s in SRC.items():
         else:
             found("3", "a while or loop", at, m.group(0))
 
-# 4. Conversions, order, printing by hand
-for w, s in SRC.items():
-    for at, line in lines(w, s, r"\bas (usize|u64|u32|u16|u8|i8|i16|i32|i64)\b"):
-        found("4", "a conversion by as", at, line)
-    for at, line in lines(w, s, r"^impl.*\b(From|TryFrom|Display|Debug|PartialEq|Eq|Ord|PartialOrd|Clone|Copy|Default)\b.* for "):
-        found("4", "an impl by hand", at, line)
-    for at, line in lines(w, s, r"if (\w+) < (\w+) \{ \2 \} else \{ \1 \}|if (\w+) > (\w+) \{ .* \} else \{ .* \}$|if (\w+) < \d+ \{ \5 \}"):
-        found("4", "a max or min by hand", at, line)
-
 # 5. Facts and parameters that travel
 facts = collections.defaultdict(list)
 for f in FNS:
@@ -167,10 +166,6 @@ for f in FNS:
         arms = [a for a in arms if a not in ("Ok", "Err", "Some", "write", "print", "println")]
         if len(set(arms)) >= 3:
             found("7", "a match that chooses what to run", f.where, f"{f.name}: {m.group(1)} -> {', '.join(sorted(set(arms)))}")
-for w, s in SRC.items():
-    for at, line in lines(w, s, r"\bdyn \b|: fn\(|impl Fn"):
-        found("7", "a function handed over", at, line)
-
 # 8. Proofs
 for crate in sorted(glob.glob(f"{ROOT}/crates/*/proofs")):
     name = crate.split("/")[-2]
