@@ -1,17 +1,9 @@
-ghost use Rattle.std.specs.Prelude.{◌≡◌, ◌<◌, ◌≤◌, not, [], ◌∷◌, ◌++◌, length, ◌==◌};
-ghost use Rattle.std.specs.List.{list_any};
+ghost use Rattle.std.specs.Prelude.{◌≡◌, ◌<◌, ◌≤◌, not, [], ◌∷◌, ◌++◌, length};
 ghost use Rattle.patch.specs.Orders.{listed};
 ghost use Rattle.patch.specs.Placing.{lowest, stands};
 
 use crate::orders::Order;
 use arrayvec::ArrayVec;
-
-// Is one of some nodes v?
-fn some_is(nodes: &[u8], v: usize) -> bool
-    ensures { result ≡ list_any (λ w. w == v) nodes.now }
-{
-    nodes.iter().any(|w| usize::from(*w) == v)
-}
 
 impl Order {
     // Nothing is placed.
@@ -20,6 +12,7 @@ impl Order {
     {
         Order {
             nodes: ArrayVec::new(),
+            placed: [false; 16],
         }
     }
 
@@ -40,7 +33,7 @@ impl Order {
     pub(crate) fn has(&self, v: usize) -> bool
         ensures { result ≡ stands (listed self.now) v }
     {
-        some_is(self.nodes(), v)
+        self.placed.get(v).copied().unwrap_or(false)
     }
 
     // The lowest of so many nodes that is not placed.
@@ -51,9 +44,11 @@ impl Order {
     }
 
     pub(crate) fn push(&mut self, v: u8)
-        requires { length (listed self.old) < 16 }
+        requires node { v < 16 }
+        requires room { length (listed self.old) < 16 }
         ensures { listed self.new ≡ listed self.old ++ v ∷ [] }
     {
         self.nodes.push(v);
+        self.placed[usize::from(v)] = true;
     }
 }

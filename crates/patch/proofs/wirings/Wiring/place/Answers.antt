@@ -20,7 +20,10 @@ push-requires c =
     let f = c.in-Some.ensures in
     let p = wired c.args.self.now in
     let order = listed c.loop-v.order in
-    omega (arith, c.args.self.now.rules.few_nodes, room p order c.in-Some.v c.loop-v.invariant.0 f.0 (follows p order c.in-Some.v f.1.new f.1.hears))
+    record {
+      node = omega (arith, c.args.self.now.rules.few_nodes, f.0);
+      room = omega (arith, c.args.self.now.rules.few_nodes, room p order c.in-Some.v c.loop-v.invariant.0 f.0 (follows p order c.in-Some.v f.1.new f.1.hears));
+    }
 
 pub loop-v-smaller : goal.loop-v-smaller
 loop-v-smaller c =
