@@ -1,3 +1,4 @@
+pub mod Bound
 pub mod Follow
 pub mod Hearing
 pub mod Keeping
